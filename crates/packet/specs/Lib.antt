@@ -1,0 +1,5 @@
+pub mod Parity
+pub mod Wires
+pub mod Reading
+pub mod Writing
+pub mod Contents
