@@ -2,6 +2,8 @@ ghost use mathlib.Core.Path.{_≡_};
 ghost use Prim.Native.Nat.{_+_, _-_, _*_, _%_, _<_, _≤_};
 ghost use Rattle.packet.specs.Wires.{cvAt};
 ghost use Rattle.packet.specs.Reading.{withOne, withTwo, consist as consistOf, speed126 as speedOf, binaryLong, binaryShort, eight as eightOf, acceleration as accelerationOf, deceleration as decelerationOf, bitOperation as bitOperationOf, longForm, alone as aloneOf, byFirst, mobile as mobileOf, cvAccess, basic as basicOf, extended as extendedOf, basicAddress, extendedAddress, isExtendedHead, told, accessory as accessoryOf, long as longOf, idle as idleOf, byAddress, addressed as addressedOf, reading};
+ghost use Rattle.packet.specs.Laws.{WrittenBack, AllAccepted};
+ghost use Rattle.packet.specs.Refusing.{refusalIn, firstOf, causes};
 use crate::cv::CvNumber;
 use crate::cv::WireAddress;
 use crate::instruction::FunctionGroup;
@@ -357,8 +359,7 @@ fn addressed(bytes: &[u8]) -> Result<Packet, Refusal>
     }
 }
 
-/// What a packet says, or why it is refused.
-pub fn read(packet: &[u8]) -> Result<Packet, Refusal>
+fn decode(packet: &[u8]) -> Result<Packet, Refusal>
     ensures { λ r. ⌜ r ≡ reading (now (packet .entry)) ⌝ }
 {
     if packet.len() < 3 || packet.len() > 6 {
@@ -368,4 +369,14 @@ pub fn read(packet: &[u8]) -> Result<Packet, Refusal>
         return Err(Refusal::ErrorByte);
     }
     addressed(&packet[0..packet.len() - 1])
+}
+
+/// What a packet says, or the first cause for which it is refused. What it accepts is exactly what `write` writes.
+pub fn read(packet: &[u8]) -> Result<Packet, Refusal>
+    ensures value { λ r. ⌜ r ≡ reading (now (packet .entry)) ⌝ }
+    ensures written_back { λ r. ⌜ WrittenBack (now (packet .entry)) r ⌝ }
+    ensures all_accepted { λ r. ⌜ AllAccepted (now (packet .entry)) r ⌝ }
+    ensures refused { λ r. ⌜ refusalIn r ≡ firstOf (causes (now (packet .entry))) ⌝ }
+{
+    decode(packet)
 }

@@ -6,6 +6,7 @@ ghost use Rattle.std.specs.declared.result.Result.the-variants.{Ok};
 ghost use Rattle.packet.specs.Contents.{contents, listed, paired};
 ghost use Rattle.packet.specs.Parity.{sealed};
 ghost use Rattle.packet.specs.Writing.{flag as flagOf, atCv, atBit, cvBody, functionBytes, formOf, idleBody, mobileBody, basicBody, extendedBody, bodyOf, outputBits, headOf, encoded, answer, after};
+ghost use Rattle.packet.specs.Laws.{ReadsBack};
 use crate::bytes::Bytes;
 use crate::cv::CvNumber;
 use crate::instruction::FunctionGroup;
@@ -273,8 +274,7 @@ fn place_parts(head: &[u8], body: &[u8], place: &mut [u8]) -> Result<usize, Refu
     Ok(total)
 }
 
-/// Puts the packet at the front of the place and answers its length; the rest of the place stays.
-pub fn write(target: Target, instruction: Instruction, place: &mut [u8]) -> Result<usize, Refusal>
+fn encode(target: Target, instruction: Instruction, place: &mut [u8]) -> Result<usize, Refusal>
     ensures answered { λ r. ⌜ r ≡ answer (encoded target instruction) (now (place .entry)) ⌝ }
     ensures placed { λ r. ⌜ now (place .exit) ≡ after (encoded target instruction) (now (place .entry)) ⌝ }
 {
@@ -285,4 +285,14 @@ pub fn write(target: Target, instruction: Instruction, place: &mut [u8]) -> Resu
         }
         Err(refusal) => Err(refusal),
     }
+}
+
+/// Puts the packet at the front of the place and answers its length; the rest of the place stays. A refusal leaves all
+/// of it. What is written reads as itself.
+pub fn write(target: Target, instruction: Instruction, place: &mut [u8]) -> Result<usize, Refusal>
+    ensures answered { λ r. ⌜ r ≡ answer (encoded target instruction) (now (place .entry)) ⌝ }
+    ensures placed { λ r. ⌜ now (place .exit) ≡ after (encoded target instruction) (now (place .entry)) ⌝ }
+    ensures reads_back { λ r. ⌜ ReadsBack target instruction r (now (place .exit)) ⌝ }
+{
+    encode(target, instruction, place)
 }

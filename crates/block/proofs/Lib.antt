@@ -1,0 +1,6 @@
+pub mod Fills
+pub mod Shapes
+pub mod Steps
+pub mod Sums
+pub mod Handings
+pub mod Tilings

@@ -1,0 +1,31 @@
+ghost use mathlib.Core.Path.{_≡_};
+ghost use Rattle.block.specs.Handing.{handedOut, bytesIn};
+use crate::length::check_length;
+use crate::records::Record;
+use crate::records::record_at;
+use fault::Fault;
+use fault::Refusal;
+
+/// The packet that `n` others stand before, as the very part of the block that holds it.
+///
+/// It counts the packets that the block carries, those before its fill or its first fault, and tells no fault of the block but that of its length.
+pub fn packet_at<'a>(block: &'a [u8], n: usize) -> Result<&'a [u8], Fault>
+    ensures { λ r. ⌜ bytesIn r ≡ handedOut (now (block .entry)) n ⌝ }
+{
+    check_length(block)?;
+    let mut left = n;
+    let mut offset = 0;
+    while let Ok(Some(carried)) = record_at(block, offset) {
+        if let Record::Packet(packet) = carried.record {
+            if left == 0 {
+                return Ok(packet);
+            }
+            left -= 1;
+        }
+        offset = carried.next;
+    }
+    Err(Fault {
+        refusal: Refusal::NumberOutOfRange,
+        offset: 0,
+    })
+}
