@@ -1,11 +1,2 @@
-pub mod Codings
 pub mod Cvs
 pub mod Parities
-pub mod Places
-pub mod Shapes
-pub mod Backs
-pub mod Rounds
-pub mod Forths
-pub mod Returns
-pub mod Refused
-pub mod Placed

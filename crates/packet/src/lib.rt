@@ -1,20 +1,32 @@
-//! DCC packets: the bytes of a packet, whom it is for and what it asks, both ways.
+//! What a DCC packet says: its target, its instruction, and the numbers of configuration variables.
 
-mod bytes;
 pub mod cv;
 pub mod instruction;
 pub mod packet;
-mod parity;
-mod reading;
 pub mod target;
+
+mod error_byte;
 mod wires;
-mod writing;
 
 pub use crate::cv::CvNumber;
+pub use crate::cv::CvNumberDebug;
+pub use crate::cv::CvNumberEq;
+pub use crate::cv::CvNumberPartialEq;
 pub use crate::cv::WireAddress;
 pub use crate::instruction::FunctionGroup;
+pub use crate::instruction::FunctionGroupDebug;
+pub use crate::instruction::FunctionGroupEq;
+pub use crate::instruction::FunctionGroupPartialEq;
 pub use crate::instruction::Instruction;
+pub use crate::instruction::InstructionDebug;
+pub use crate::instruction::InstructionEq;
+pub use crate::instruction::InstructionPartialEq;
 pub use crate::packet::Packet;
-pub use crate::reading::read;
+pub use crate::packet::PacketDebug;
+pub use crate::packet::PacketEq;
+pub use crate::packet::PacketPartialEq;
+pub use crate::error_byte::parity;
 pub use crate::target::Target;
-pub use crate::writing::write;
+pub use crate::target::TargetDebug;
+pub use crate::target::TargetEq;
+pub use crate::target::TargetPartialEq;

@@ -22,7 +22,7 @@ impl CvNumber {
     }
 
     /// The address by which packets name the variable: its number less one.
-    pub(crate) fn wire(self) -> WireAddress
+    pub fn wire(self) -> WireAddress
         ensures { λ r. ⌜ r ≡ wireOf self ⌝ }
     {
         WireAddress {
@@ -33,7 +33,7 @@ impl CvNumber {
 
 impl WireAddress {
     /// The address of which `first` has the upper two bits and `second` the lower eight.
-    pub(crate) fn from_bytes(first: u8, second: u8) -> WireAddress
+    pub fn from_bytes(first: u8, second: u8) -> WireAddress
         ensures { λ r. ⌜ r ≡ wireAt first second ⌝ }
     {
         WireAddress {
@@ -42,14 +42,14 @@ impl WireAddress {
     }
 
     /// The upper two bits and the lower eight.
-    pub(crate) fn to_bytes(self) -> (u8, u8)
+    pub fn to_bytes(self) -> (u8, u8)
         ensures { λ r. ⌜ r ≡ wireBytes self ⌝ }
     {
         ((self.address / 256) as u8, (self.address % 256) as u8)
     }
 
     /// The variable at the address: the number is one more.
-    pub(crate) fn number(self) -> CvNumber
+    pub fn number(self) -> CvNumber
         ensures { λ r. ⌜ r ≡ numberOf self ⌝ }
     {
         CvNumber {

@@ -1,0 +1,2 @@
+pub mod Codings
+pub mod Places
