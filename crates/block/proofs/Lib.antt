@@ -4,3 +4,5 @@ pub mod Steps
 pub mod Sums
 pub mod Handings
 pub mod Tilings
+pub mod Walkings
+pub mod Examples

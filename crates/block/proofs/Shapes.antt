@@ -1,12 +1,12 @@
 -- What a record or a fault at one place tells of the bytes there.
-use mathlib.Core.Path.{_≡_, refl, sym, ap, subst, _∙_}
-use mathlib.Core.Bool.{Bool, true, false, cond, _&&_}
-use mathlib.Core.List.{List, [], _∷_}
+use mathlib.Core.Path.{_≡_, refl, sym, ap, subst}
+use mathlib.Core.Bool.{false}
+use mathlib.Core.List.{List}
 use mathlib.Core.Logic.{_⊎_, inl, inr, ⊎-elim}
 use Prim.Native.Nat.{ℕ, _+_, _<_, _≤_}
 use native.Mathlib.Omega.{arith}
 use lib.Dec.{eqb, ltb, leb}
-use lib.ListN.{length, getD, take, drop}
+use lib.ListN.{length, getD, take, drop, length-drop}
 use Rattle.std.proofs.shelf.Lists.{length-take-le}
 use Rattle.std.proofs.shelf.Tests.{cond-both, eqb-true, eqb-false, ltb-true, ltb-false, leb-true, leb-false, and-parts, and-cases}
 use Rattle.std.specs.declared.option.Option.{Option}
@@ -73,14 +73,44 @@ shape o k xs =
     (λ np. inl (record { is = refl; notFill = eqb-false k 0 nz; notPowerUp = eqb-false k 16 nu; notPacket = not-packet k np }))))
 
 -- of the record that `recordAt` says
-abbrev pub Told : List ℕ → ℕ → Result (Option Placed) Fault → Type 0
-Told b o (Ok None) = Unit {0}
-Told b o (Ok (Some p)) = (p .upTo ≡ endsAt b o (p .thing)) × Shape o (getD b o 0) (drop (o + 1) b) (Ok (p .thing))
-Told b o (Err e) = Unit {0}
+pub record Found (b : List ℕ) (o : ℕ) (p : Placed) : Type 0 where
+  pub inside : o < length b
+  pub is : p ≡ record { from = o; thing = p .thing; upTo = endsAt b o (p .thing) }
+  pub shaped : Shape o (getD b o 0) (drop (o + 1) b) (Ok (p .thing))
 
-placed-told : (b : List ℕ) (o : ℕ) (r : Result Thing Fault) → Shape o (getD b o 0) (drop (o + 1) b) r → Told b o (placed b o r)
-placed-told b o (Ok t) h = (refl, h)
-placed-told b o (Err e) h = tt
+abbrev pub Told : List ℕ → ℕ → Result (Option Placed) Fault → Type 0
+Told b o (Ok None) = length b ≤ o
+Told b o (Ok (Some p)) = Found b o p
+Told b o (Err e) = o < length b
+
+placed-told : (b : List ℕ) (o : ℕ) (r : Result Thing Fault) → o < length b → Shape o (getD b o 0) (drop (o + 1) b) r → Told b o (placed b o r)
+placed-told b o (Ok t) lt h = record { inside = lt; is = refl; shaped = h }
+placed-told b o (Err e) lt h = lt
 
 pub told : (b : List ℕ) (o : ℕ) → Told b o (recordAt b o)
-told b o = cond-both (ltb o (length b)) _ _ (Told b o) (λ _. placed-told b o _ (shape o (getD b o 0) (drop (o + 1) b))) (λ _. tt)
+told b o =
+    cond-both (ltb o (length b)) _ _ (Told b o)
+    (λ lt. placed-told b o (thingOf o (getD b o 0) (drop (o + 1) b)) (ltb-true o (length b) lt) (shape o (getD b o 0) (drop (o + 1) b)))
+    (λ past. ltb-false o (length b) past)
+
+-- where r is what `record_at` found there
+pub told-as : (b : List ℕ) (o : ℕ) (r : Result (Option Placed) Fault) → r ≡ recordAt b o → Told b o r
+told-as b o r e = subst (Told b o) (sym e) (told b o)
+
+-- the next record begins later
+pub later : (b : List ℕ) (o : ℕ) (p : Placed) → Found b o p → o < p .upTo
+later b o p f = subst (λ n. o < n) (sym (ap (λ (q : Placed). q .upTo) (f .is))) (past (p .thing))
+  where
+    past : (t : Thing) → o < endsAt b o t
+    past fill = f .inside
+    past powerUp = omega arith
+    past (packet q) = omega arith
+
+-- and within the block or at its end
+pub ends-inside : (b : List ℕ) (o : ℕ) (p : Placed) → Found b o p → p .upTo ≤ length b
+ends-inside b o p f = subst (λ n. n ≤ length b) (sym (ap (λ (q : Placed). q .upTo) (f .is))) (ends (p .thing) (f .shaped))
+  where
+    ends : (t : Thing) → Shape o (getD b o 0) (drop (o + 1) b) (Ok t) → endsAt b o t ≤ length b
+    ends fill h = omega arith
+    ends powerUp h = let lt = f .inside in omega arith
+    ends (packet q) h = let lt = f .inside in omega (arith, h .inside, length-drop (o + 1) b)

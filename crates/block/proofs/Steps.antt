@@ -18,14 +18,14 @@ use Rattle.block.specs.declared.records.Record.the-variants.{Fill, PowerUp, Pa
 use Rattle.block.specs.declared.records.Carried.{Carried}
 use Rattle.block.specs.Contents.{Thing, Placed, thingOf, placed, recordAt, thingIn, found}
 use Rattle.block.specs.Contents.Thing.{fill, powerUp, packet}
-use Rattle.block.specs.Reading.{Reading, walk, readingFrom}
+use Rattle.block.specs.Reading.{Reading, readOn, readingFrom}
 use Rattle.block.specs.Reading.Reading.{done, filled, broken, more}
 
-walk-skip : (k o : ℕ) (xs : List ℕ) → walk k o xs ≡ walk 0 (o + k) (drop k xs)
-unfolding walk
-walk-skip zero o xs = ap (λ n. walk 0 n xs) (sym (add-zero o))
-walk-skip (suc k) o [] = refl
-walk-skip (suc k) o (x ∷ xs) = let e : o + 1 + k ≡ o + suc k = omega arith in walk-skip k (o + 1) xs ∙ ap (λ n. walk 0 n (drop k xs)) e
+read-skip : (k o : ℕ) (xs : List ℕ) → readOn k o xs ≡ readOn 0 (o + k) (drop k xs)
+unfolding readOn
+read-skip zero o xs = ap (λ n. readOn 0 n xs) (sym (add-zero o))
+read-skip (suc k) o [] = refl
+read-skip (suc k) o (x ∷ xs) = let e : o + 1 + k ≡ o + suc k = omega arith in read-skip k (o + 1) xs ∙ ap (λ n. readOn 0 n (drop k xs)) e
 
 -- how the reading goes on behind the record t
 abbrev pub passing : List ℕ → ℕ → Thing → ℕ → Reading
@@ -39,26 +39,26 @@ onward b o (Ok None) = done
 onward b o (Ok (Some p)) = passing b o (p .thing) (p .upTo)
 onward b o (Err e) = broken o e
 
--- a turn of `walk`, where the record is r and xs stands behind its kind byte
+-- a turn of `readOn`, where the record is r and xs stands behind its kind byte
 abbrev turn : ℕ → List ℕ → Result Thing Fault → Reading
-turn o xs r = elim r [ Ok t ↦ elim t [ fill ↦ filled o | powerUp ↦ more o powerUp (walk zero (o + 1) xs) | packet p ↦ more o (packet p) (walk (length p) (o + 1) xs) ] | Err e ↦ broken o e ]
+turn o xs r = elim r [ Ok t ↦ elim t [ fill ↦ filled o | powerUp ↦ more o powerUp (readOn zero (o + 1) xs) | packet p ↦ more o (packet p) (readOn (length p) (o + 1) xs) ] | Err e ↦ broken o e ]
 
-walk-turn : (o x : ℕ) (xs : List ℕ) → walk 0 o (x ∷ xs) ≡ turn o xs (thingOf o x xs)
-unfolding walk
-walk-turn o x xs = refl
+read-turn : (o x : ℕ) (xs : List ℕ) → readOn 0 o (x ∷ xs) ≡ turn o xs (thingOf o x xs)
+unfolding readOn
+read-turn o x xs = refl
 
 turn-onward : (b : List ℕ) (o : ℕ) (r : Result Thing Fault) → turn o (drop (o + 1) b) r ≡ onward b o (placed b o r)
 turn-onward b o (Ok fill) = refl
 turn-onward b o (Ok powerUp) = refl
-turn-onward b o (Ok (packet p)) = ap (more o (packet p)) (walk-skip (length p) (o + 1) (drop (o + 1) b) ∙ ap (λ l. walk 0 (o + 1 + length p) l) (drop-drop (length p) (o + 1) b))
+turn-onward b o (Ok (packet p)) = ap (more o (packet p)) (read-skip (length p) (o + 1) (drop (o + 1) b) ∙ ap (λ l. readOn 0 (o + 1 + length p) l) (drop-drop (length p) (o + 1) b))
 turn-onward b o (Err e) = refl
 
 pub reads-on : (b : List ℕ) (o : ℕ) → o < length b → readingFrom b o ≡ onward b o (placed b o (thingOf o (getD b o 0) (drop (o + 1) b)))
-reads-on b o h = at-drop-more (walk 0 o) b o 0 h ∙ walk-turn o (getD b o 0) (drop (o + 1) b) ∙ turn-onward b o (thingOf o (getD b o 0) (drop (o + 1) b))
+reads-on b o h = at-drop-more (readOn 0 o) b o 0 h ∙ read-turn o (getD b o 0) (drop (o + 1) b) ∙ turn-onward b o (thingOf o (getD b o 0) (drop (o + 1) b))
 
 pub reads-end : (b : List ℕ) (o : ℕ) → length b ≤ o → readingFrom b o ≡ done
-unfolding walk
-reads-end b o h = at-drop-all (walk 0 o) b o h
+unfolding readOn
+reads-end b o h = at-drop-all (readOn 0 o) b o h
 
 pub reads : (b : List ℕ) (o : ℕ) → readingFrom b o ≡ onward b o (recordAt b o)
 reads b o =
@@ -81,15 +81,3 @@ module _ (b : List ℕ) (o : ℕ) (c : Carried) (e : found (Ok (Some c)) ≡ rec
 
   pub reads-packet : (p : RefT (List ℕ)) → c .«record» ≡ Packet p → readingFrom b o ≡ more o (packet (p .now)) (readingFrom b (c .next))
   reads-packet p h = reads-as b o _ e ∙ ap (λ r. passing b o (thingIn r) (c .next)) h
-
-none-placed : (b : List ℕ) (o : ℕ) (r : Result Thing Fault) → Ok None ≡ placed b o r → ⊥
-none-placed b o (Ok t) e = let z : _≡_ {A = ℕ} 0 1 = cc in omega arith
-none-placed b o (Err f) e = let z : _≡_ {A = ℕ} 0 1 = cc in omega arith
-
--- no record is found only at the end or past it
-pub ends-at : (b : List ℕ) (o : ℕ) → found (Ok None) ≡ recordAt b o → o ≤ length b → o ≡ length b
-ends-at b o e h =
-    ⊎-elim
-    (λ lt. absurd (none-placed b o (thingOf o (getD b o 0) (drop (o + 1) b)) (e ∙ cond-true _ _ _ (lt-ltb o (length b) lt))))
-    (λ past. omega arith)
-    (cases-lt o (length b))

@@ -1,5 +1,5 @@
 -- The counts of what is left of a block, on top of those so far.
-use mathlib.Core.Path.{_≡_, refl, sym, ap, _∙_}
+use mathlib.Core.Path.{_≡_, ap}
 use mathlib.Core.List.{List}
 use Prim.Native.Nat.{ℕ, suc, _+_}
 use native.Mathlib.Nat.{add-zero}
@@ -7,7 +7,7 @@ use native.Mathlib.Omega.{arith}
 use Rattle.std.specs.declared.option.Option.{Option}
 use Rattle.fault.specs.declared.fault.Fault.{Fault}
 use Rattle.block.specs.declared.summary.Survey.{Survey}
-use Rattle.block.specs.Contents.Thing.{fill, powerUp, packet}
+use Rattle.block.specs.Contents.Thing.{powerUp, packet}
 use Rattle.block.specs.Reading.{Reading, carried, endOf, faultOf}
 use Rattle.block.specs.Reading.Reading.{more}
 use Rattle.block.specs.Summing.{summed, packetCount, powerUpCount}

@@ -1,24 +1,26 @@
 -- What a reading tells of its block.
 use mathlib.Core.Path.{_≡_, refl, sym, ap, subst, _∙_}
-use mathlib.Core.Bool.{cond}
+use mathlib.Core.Bool.{true, false}
 use mathlib.Core.List.{List, [], _∷_}
-use mathlib.Core.Logic.{_⊎_, inl, inr, ⊎-elim}
-use Prim.Native.Nat.{ℕ, zero, suc, _+_, _-_, _<_, _≤_}
+use mathlib.Core.Logic.{inl, inr, ⊎-elim}
+use Prim.Native.Nat.{ℕ, zero, suc, _+_, _<_, _≤_}
 use native.Mathlib.Omega.{arith}
 use lib.ListN.{length, getD, take, drop, length-drop}
 use Rattle.std.proofs.shelf.Lists.{drop-more}
-use Rattle.std.proofs.shelf.Tests.{cases-lt, cond-true, eq-eqb}
-use Rattle.std.specs.declared.option.Option.{Option}
+use Rattle.std.proofs.shelf.Tests.{cases-lt, cond-true, cond-false, eq-eqb}
 use Rattle.std.specs.declared.option.Option.the-variants.{Some, None}
 use Rattle.std.specs.declared.result.Result.{Result}
 use Rattle.std.specs.declared.result.Result.the-variants.{Ok, Err}
 use Rattle.std.specs.shelf.Lists.{All}
 use Rattle.fault.specs.declared.fault.Fault.{Fault}
-use Rattle.block.specs.Contents.{Thing, firstNonzero, firstNonzeroFrom, fillUnless, thingOf, placed}
+use Rattle.fault.specs.declared.refusal.Refusal.the-variants.{BlockLength}
+use Rattle.block.specs.Contents.{Thing, faultAt, isBlockLength, firstNonzeroFrom, fillUnless, thingOf, placed}
 use Rattle.block.specs.Contents.Thing.{fill, powerUp, packet}
 use Rattle.block.specs.Reading.{Reading, reading, readingFrom, carried, endOf, faultOf}
-use Rattle.block.specs.Reading.Reading.{done, filled, broken, more}
-use Rattle.block.specs.Tiling.{bytesOf, Stands, Tiles, ZeroFrom, Unknown, CutOff, SpoiltFill, EndsBy, FillIsNothing}
+use Rattle.block.specs.Reading.Reading.{filled, broken}
+use Rattle.block.specs.declared.summary.Survey.{Survey}
+use Rattle.block.specs.Summing.{summed, surveyed, packetCount, powerUpCount}
+use Rattle.block.specs.Tiling.{Stands, Tiles, ZeroFrom, Unknown, CutOff, SpoiltFill, EndsBy, SurveyTiles, SurveyEnds, FillIsNothing}
 use Rattle.block.proofs.Fills.{Looked, looked, zero-from, nonzero-none}
 use Rattle.block.proofs.Shapes.{Whole, NoKind, Short, Spoilt, Shape, shape}
 use Rattle.block.proofs.Steps.{onward, reads-on, reads-end}
@@ -89,6 +91,25 @@ fill-reads b lt here rest =
     let is : thingOf 0 (getD b 0 0) (drop 1 b) ≡ Ok fill = cond-true _ _ _ (eq-eqb (getD b 0 0) 0 here) ∙ ap fillUnless (nonzero-none 1 (drop 1 b) rest) in
     reads-on b 0 lt ∙ ap (λ r. onward b 0 (placed b 0 r)) is
 
-pub fill-is-nothing : (b : List ℕ) → FillIsNothing b
-fill-is-nothing [] h = let e = reads-end [] 0 (omega arith) in (ap carried e, ap faultOf e)
-fill-is-nothing (x ∷ xs) h = let e = fill-reads (x ∷ xs) (omega arith) (h .0) (h .1) in (ap carried e, ap faultOf e)
+fill-carries-none : (b : List ℕ) → All (λ x. x ≡ 0) b → (carried (reading b) ≡ []) × (faultOf (reading b) ≡ None)
+fill-carries-none [] h = let e = reads-end [] 0 (omega arith) in (ap carried e, ap faultOf e)
+fill-carries-none (x ∷ xs) h = let e = fill-reads (x ∷ xs) (omega arith) (h .0) (h .1) in (ap carried e, ap faultOf e)
+
+fill-counts-none : (b : List ℕ) (s : Survey) → s ≡ summed (length b) (reading b) → FillIsNothing b (Ok s)
+fill-counts-none b s e h =
+    let n = fill-carries-none b h in
+    let p : s .packets ≡ 0 = ap (λ (t : Survey). t .packets) e ∙ ap packetCount (n .0) in
+    let u : s .«power_ups» ≡ 0 = ap (λ (t : Survey). t .«power_ups») e ∙ ap powerUpCount (n .0) in
+    let f : s .fault ≡ None = ap (λ (t : Survey). t .fault) e ∙ n .1 in
+    (n .0, n .1, (p, u, f))
+
+-- ---- what `survey` ensures
+
+-- of a block whose reading s sums up
+pub survey-tells : (b : List ℕ) (s : Survey) → isBlockLength (length b) ≡ true → s ≡ summed (length b) (reading b) → (Ok s ≡ surveyed b) × SurveyTiles b (Ok s) × SurveyEnds b (Ok s) × FillIsNothing b (Ok s)
+survey-tells b s good e =
+    (ap Ok e ∙ sym (cond-true _ _ _ good), subst (λ t. SurveyTiles b (Ok t)) (sym e) (sound b .0), subst (λ t. SurveyEnds b (Ok t)) (sym e) (sound b .1), fill-counts-none b s e)
+
+-- of a block that is refused
+pub survey-refuses : (b : List ℕ) (f : Fault) → isBlockLength (length b) ≡ false → f ≡ faultAt BlockLength 0 → (Err f ≡ surveyed b) × FillIsNothing b (Err f)
+survey-refuses b f bad e = (ap Err e ∙ sym (cond-false _ _ _ bad), λ h. let n = fill-carries-none b h in (n .0, n .1, tt))

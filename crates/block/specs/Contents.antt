@@ -15,6 +15,7 @@ use Rattle.block.specs.declared.records.Record.{Record}
 use Rattle.block.specs.declared.records.Record.the-variants.{Fill, PowerUp, Packet}
 use Rattle.block.specs.declared.records.Carried.{Carried}
 
+-- the refusal r, which stands at o
 abbrev pub faultAt : Refusal → ℕ → Fault
 faultAt r o = record { refusal = r; offset = o }
 
@@ -22,6 +23,7 @@ faultAt r o = record { refusal = r; offset = o }
 abbrev pub isBlockLength : ℕ → Bool
 isBlockLength n = leb 1 n && leb n 512
 
+-- any other length is refused
 abbrev pub lengthChecked : ℕ → Result (Unit {0}) Fault
 lengthChecked n = cond (isBlockLength n) (Ok tt) (Err (faultAt BlockLength 0))
 
@@ -40,6 +42,7 @@ unfoldable pub firstNonzero : ℕ → List ℕ → Option ℕ
 firstNonzero o [] = None
 firstNonzero o (x ∷ xs) = cond (eqb x 0) (firstNonzero (o + 1) xs) (Some o)
 
+-- the same from the offset o of the block b on
 abbrev pub firstNonzeroFrom : List ℕ → ℕ → Option ℕ
 firstNonzeroFrom b o = firstNonzero o (drop o b)
 
@@ -63,12 +66,13 @@ pub record Placed : Type 0 where
   pub thing : Thing
   pub upTo : ℕ
 
--- after fill nothing is left of the block b
+-- where the record t at o ends; after fill nothing is left of the block b
 abbrev pub endsAt : List ℕ → ℕ → Thing → ℕ
 endsAt b o fill = length b
 endsAt b o powerUp = o + 1
 endsAt b o (packet p) = o + 1 + length p
 
+-- with its place
 abbrev pub placed : List ℕ → ℕ → Result Thing Fault → Result (Option Placed) Fault
 placed b o (Ok t) = Ok (Some (record { from = o; thing = t; upTo = endsAt b o t }))
 placed b o (Err e) = Err e

@@ -27,6 +27,7 @@ abbrev pub bytesAt : List ℕ → Option (ℕ × ℕ) → Result (List ℕ) Faul
 bytesAt b None = Err (faultAt NumberOutOfRange 0)
 bytesAt b (Some (o, k)) = Ok (take k (drop (o + 1) b))
 
+-- the n-th packet of the block b, counted from 0; a bad length is refused first
 abbrev pub handedOut : List ℕ → ℕ → Result (List ℕ) Fault
 handedOut b n = cond (isBlockLength (length b)) (bytesAt b (packetPlace n (carried (reading b)))) (Err (faultAt BlockLength 0))
 

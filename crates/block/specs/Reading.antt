@@ -17,26 +17,28 @@ pub data Reading : Type 0 where
   filled : ℕ → Reading
   -- with a fault of the record at the offset
   broken : ℕ → Fault → Reading
+  -- a record at the offset, and what comes after it
   more : ℕ → Thing → Reading → Reading
 
 -- the bytes xs from the offset o on, after the first `skip` of them, which belong to a body
-unfoldable pub walk : ℕ → ℕ → List ℕ → Reading
-walk skip o [] = done
-walk (suc skip) o (x ∷ xs) = walk skip (o + 1) xs
-walk zero o (x ∷ xs) =
+unfoldable pub readOn : ℕ → ℕ → List ℕ → Reading
+readOn skip o [] = done
+readOn (suc skip) o (x ∷ xs) = readOn skip (o + 1) xs
+readOn zero o (x ∷ xs) =
     elim (thingOf o x xs) [
       | Ok t ↦ elim t [
         | fill ↦ filled o
-        | powerUp ↦ more o powerUp (walk zero (o + 1) xs)
-        | packet p ↦ more o (packet p) (walk (length p) (o + 1) xs)
+        | powerUp ↦ more o powerUp (readOn zero (o + 1) xs)
+        | packet p ↦ more o (packet p) (readOn (length p) (o + 1) xs)
       ]
       | Err e ↦ broken o e
     ]
 
 -- the block b from the offset o on
 abbrev pub readingFrom : List ℕ → ℕ → Reading
-readingFrom b o = walk 0 o (drop o b)
+readingFrom b o = readOn 0 o (drop o b)
 
+-- the whole block
 abbrev pub reading : List ℕ → Reading
 reading b = readingFrom b 0
 
@@ -54,6 +56,7 @@ endOf n (filled o) = o
 endOf n (broken o e) = o
 endOf n (more o t r) = endOf n r
 
+-- the block fault, if there is one
 abbrev pub faultOf : Reading → Option Fault
 faultOf done = None
 faultOf (filled o) = None

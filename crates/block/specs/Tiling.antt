@@ -80,6 +80,10 @@ abbrev pub SurveyEnds : List ℕ → Result Survey Fault → Type 0
 SurveyEnds b (Ok s) = EndsBy b (s .end) (s .fault)
 SurveyEnds b (Err e) = Unit {0}
 
--- a block of only zero bytes, however long, carries nothing and has no fault
-abbrev pub FillIsNothing : List ℕ → Type 0
-FillIsNothing b = All (λ x. x ≡ 0) b → (carried (reading b) ≡ []) × (faultOf (reading b) ≡ None)
+abbrev pub CountsNothing : Result Survey Fault → Type 0
+CountsNothing (Ok s) = (s .packets ≡ 0) × (s .«power_ups» ≡ 0) × (s .fault ≡ None)
+CountsNothing (Err e) = Unit {0}
+
+-- a block of only zero bytes, however long, carries nothing and has no fault, and no survey counts anything in it
+abbrev pub FillIsNothing : List ℕ → Result Survey Fault → Type 0
+FillIsNothing b r = All (λ x. x ≡ 0) b → (carried (reading b) ≡ []) × (faultOf (reading b) ≡ None) × CountsNothing r

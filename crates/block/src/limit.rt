@@ -1,6 +1,7 @@
 ghost use mathlib.Core.Path.{_≡_};
 ghost use lib.ListN.{length};
 ghost use Rattle.block.specs.Contents.{lengthChecked};
+use crate::refusing::fault_at;
 use fault::Fault;
 use fault::Refusal;
 
@@ -10,9 +11,6 @@ pub fn check_length(block: &[u8]) -> Result<(), Fault>
 {
     match block.len() {
         1..=512 => Ok(()),
-        _ => Err(Fault {
-            refusal: Refusal::BlockLength,
-            offset: 0,
-        }),
+        _ => Err(fault_at(Refusal::BlockLength, 0)),
     }
 }

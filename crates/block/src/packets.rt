@@ -1,8 +1,9 @@
 ghost use mathlib.Core.Path.{_≡_};
 ghost use Rattle.block.specs.Handing.{handedOut, bytesIn};
-use crate::length::check_length;
 use crate::records::Record;
-use crate::records::record_at;
+use crate::refusing::fault_at;
+use crate::walk::Walk;
+use crate::walk::WalkIterator;
 use fault::Fault;
 use fault::Refusal;
 
@@ -12,20 +13,17 @@ use fault::Refusal;
 pub fn packet_at<'a>(block: &'a [u8], n: usize) -> Result<&'a [u8], Fault>
     ensures { λ r. ⌜ bytesIn r ≡ handedOut (now (block .entry)) n ⌝ }
 {
-    check_length(block)?;
     let mut left = n;
-    let mut offset = 0;
-    while let Ok(Some(carried)) = record_at(block, offset) {
+    for item in Walk::new(block)? {
+        let Ok(carried) = item else {
+            break;
+        };
         if let Record::Packet(packet) = carried.record {
             if left == 0 {
                 return Ok(packet);
             }
             left -= 1;
         }
-        offset = carried.next;
     }
-    Err(Fault {
-        refusal: Refusal::NumberOutOfRange,
-        offset: 0,
-    })
+    Err(fault_at(Refusal::NumberOutOfRange, 0))
 }

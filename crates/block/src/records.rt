@@ -1,10 +1,11 @@
 ghost use mathlib.Core.Path.{_≡_};
 ghost use Rattle.block.specs.Contents.{firstNonzeroFrom, recordAt, found, Within};
+use crate::refusing::fault_at;
 use fault::Fault;
 use fault::Refusal;
 
 /// What a record is. A packet is the very part of the block that holds its bytes.
-#[derive(Clone, Copy)]
+#[derive(Clone, Copy, Debug)]
 pub enum Record<'a> {
     /// The end of the records: only zero bytes follow.
     Fill,
@@ -15,7 +16,7 @@ pub enum Record<'a> {
 }
 
 /// A record where it stands in its block.
-#[derive(Clone, Copy)]
+#[derive(Clone, Copy, Debug)]
 pub struct Carried<'a> {
     /// Where its kind byte stands.
     pub offset: usize,
@@ -50,10 +51,7 @@ pub fn record_at<'a>(block: &'a [u8], offset: usize) -> Result<Option<Carried<'a
     let kind = block[offset];
     match kind {
         0x00 => match first_nonzero(block, offset + 1) {
-            Some(at) => Err(Fault {
-                refusal: Refusal::NonzeroFill,
-                offset: at,
-            }),
+            Some(at) => Err(fault_at(Refusal::NonzeroFill, at)),
             None => Ok(Some(Carried {
                 offset,
                 record: Record::Fill,
@@ -68,10 +66,7 @@ pub fn record_at<'a>(block: &'a [u8], offset: usize) -> Result<Option<Carried<'a
         0x03..=0x06 => {
             let size = usize::from(kind);
             if block.len() - offset - 1 < size {
-                return Err(Fault {
-                    refusal: Refusal::BodyCutOff,
-                    offset,
-                });
+                return Err(fault_at(Refusal::BodyCutOff, offset));
             }
             let next = offset + 1 + size;
             Ok(Some(Carried {
@@ -80,9 +75,6 @@ pub fn record_at<'a>(block: &'a [u8], offset: usize) -> Result<Option<Carried<'a
                 next,
             }))
         }
-        _ => Err(Fault {
-            refusal: Refusal::UnknownKind,
-            offset,
-        }),
+        _ => Err(fault_at(Refusal::UnknownKind, offset)),
     }
 }

@@ -1,14 +1,14 @@
 ghost use Prim.Native.Nat.{_-_};
 ghost use lib.ListN.{length};
-ghost use Rattle.block.specs.Walking.{walked, standsAt, Begins, Steps};
-use crate::length::check_length;
+ghost use Rattle.block.specs.Walking.{walked, standsAt, Begins, Advances, GivesAll};
+use crate::limit::check_length;
 use crate::records::Carried;
 use crate::records::record_at;
 use fault::Fault;
 
 /// Goes through a block record by record.
 ///
-/// Its items are the records in order, with fill as the last one, and where the block is at fault that fault as the last one.
+/// Its items are the records in order, fill too where only zero bytes follow it. Where the block is at fault, that fault is the last item.
 #[derive(Drop)]
 pub struct Walk<'a> {
     block: &'a [u8],
@@ -16,9 +16,10 @@ pub struct Walk<'a> {
 }
 
 impl<'a> Walk<'a> {
-    /// Refuses a block that is empty or has more than 512 bytes.
+    /// Begins at the front of a block, and refuses one that is empty or has more than 512 bytes.
     pub fn new(block: &'a [u8]) -> Result<Walk<'a>, Fault>
-        ensures { λ r. ⌜ Begins (now (block .entry)) r ⌝ }
+        ensures begins { λ r. ⌜ Begins (now (block .entry)) r ⌝ }
+        ensures gives { λ r. ⌜ GivesAll (now (block .entry)) r ⌝ }
     {
         check_length(block)?;
         Ok(Walk { block, offset: 0 })
@@ -28,7 +29,7 @@ impl<'a> Walk<'a> {
 pub impl<'a> Iterator for Walk<'a> as WalkIterator {
     type Item = Result<Carried<'a>, Fault>;
 
-    ghost steps = { Steps };
+    ghost steps = { Advances };
 
     ghost ends = { λ _. Unit {0} };
 

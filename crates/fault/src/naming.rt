@@ -49,7 +49,7 @@ impl Refusal {
     }
 
     /// The refusal in a few words.
-    pub fn name(self) -> &'static str {
+    fn name(self) -> &'static str {
         match self {
             Refusal::PacketLength => "packet length not 3 to 6",
             Refusal::ErrorByte => "wrong error byte",
