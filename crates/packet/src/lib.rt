@@ -1,11 +1,10 @@
 //! What a DCC packet says: its target, its instruction, and the numbers of configuration variables.
 
 pub mod cv;
+mod error_byte;
 pub mod instruction;
 pub mod packet;
 pub mod target;
-
-mod error_byte;
 mod wires;
 
 pub use crate::cv::CvNumber;
@@ -13,6 +12,7 @@ pub use crate::cv::CvNumberDebug;
 pub use crate::cv::CvNumberEq;
 pub use crate::cv::CvNumberPartialEq;
 pub use crate::cv::WireAddress;
+pub use crate::error_byte::parity;
 pub use crate::instruction::FunctionGroup;
 pub use crate::instruction::FunctionGroupDebug;
 pub use crate::instruction::FunctionGroupEq;
@@ -25,7 +25,6 @@ pub use crate::packet::Packet;
 pub use crate::packet::PacketDebug;
 pub use crate::packet::PacketEq;
 pub use crate::packet::PacketPartialEq;
-pub use crate::error_byte::parity;
 pub use crate::target::Target;
 pub use crate::target::TargetDebug;
 pub use crate::target::TargetEq;

@@ -11,7 +11,10 @@ use packet::Packet;
 use packet::Target;
 use packet::parity;
 
-pub(crate) fn with_target(target: Target, asked: Result<Instruction, Refusal>) -> Result<Packet, Refusal>
+pub(crate) fn with_target(
+    target: Target,
+    asked: Result<Instruction, Refusal>,
+) -> Result<Packet, Refusal>
     ensures { λ r. ⌜ r ≡ told target asked ⌝ }
 {
     let instruction = asked?;

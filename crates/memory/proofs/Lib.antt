@@ -1,0 +1,3 @@
+pub mod ByteCells
+pub mod StripCells
+pub mod WordCells

@@ -1,0 +1,10 @@
+use borrow.Author.Needs.{needs}
+use Rattle.std.proofs.shelf.Lists.{set-past}
+use Rattle.memory.proofs.ByteCells.{bytes-past, bytes-write, bytes-set}
+use Rattle.memory.proofs.bytes.ByteMemoryMemory.write.Needs as need
+
+pub returns-then-cell-self : need.returns-then-cell-self
+returns-then-cell-self c = search (needs, bytes-write, bytes-set)
+
+pub returns-else-cell-self : need.returns-else-cell-self
+returns-else-cell-self c = search (needs, bytes-past, set-past)
