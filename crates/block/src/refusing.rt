@@ -4,7 +4,7 @@ use fault::Fault;
 use fault::Refusal;
 
 /// The refusal with the place that it is about.
-pub fn fault_at(refusal: Refusal, offset: usize) -> Fault
+pub(crate) fn fault_at(refusal: Refusal, offset: usize) -> Fault
     ensures { λ r. ⌜ r ≡ faultAt refusal offset ⌝ }
 {
     Fault { refusal, offset }

@@ -11,7 +11,7 @@ use Rattle.std.proofs.shelf.Ways.{tells}
 use Rattle.std.specs.declared.result.Result.the-variants.{Ok, Err}
 use Rattle.packet.specs.declared.target.Target.{Target}
 use Rattle.packet.specs.declared.instruction.Instruction.{Instruction}
-use Rattle.format.specs.Reading.{packetOf, reading}
+use Rattle.format.specs.Reading.{packetOf, packetRead}
 use Rattle.format.specs.Writing.{Coded, encoded, answer, after}
 use Rattle.format.proofs.Rounds.{written-reads}
 
@@ -27,5 +27,5 @@ pub placed-reads :
     (t : Target) (i : Instruction) (place now : List ℕ) (n : ℕ)
     → now ≡ after (encoded t i) place
     → answer (encoded t i) place ≡ Ok n
-    → reading (take n now) ≡ Ok (packetOf t i)
-placed-reads t i place now n p e = ap (λ l. reading (take n l)) p ∙ written-reads t i _ (front-is (encoded t i) place n e)
+    → packetRead (take n now) ≡ Ok (packetOf t i)
+placed-reads t i place now n p e = ap (λ l. packetRead (take n l)) p ∙ written-reads t i _ (front-is (encoded t i) place n e)

@@ -19,7 +19,7 @@ use Rattle.fault.specs.declared.refusal.Refusal.{Refusal}
 use Rattle.fault.specs.declared.refusal.Refusal.the-variants.{PacketLength, ErrorByte, ReservedAddress, AdvancedFormat, IdleForm, NoInstruction, AccessoryHead}
 use Rattle.packet.specs.declared.target.Target.{Target}
 use Rattle.packet.specs.declared.target.Target.the-variants.{Broadcast, Short, Long, Basic, Extended}
-use Rattle.format.specs.Reading.{Asked, Told, told, byFirst, mobile, cvAccess, basic, extended, basicAddress, extendedAddress, isExtendedHead, idle, long, accessory, addressed, front, reading}
+use Rattle.format.specs.Reading.{Asked, Told, told, byFirst, mobile, cvAccess, basic, extended, basicAddress, extendedAddress, isExtendedHead, idle, long, accessory, addressed, front, packetRead}
 use Rattle.format.specs.Refusing.{Cause, within, byte, firstOf, refusalIn, cvForms, aspectForms, mobileForms, sizeIn, mobileCauses, basicCauses, extendedCauses, accessoryCauses, addressCauses, causes}
 
 abbrev refusalOf : Asked → Option Refusal
@@ -230,7 +230,7 @@ outer :
     ≡ cond (not (within 3 6 n)) (Some PacketLength) (cond (not (eqb x 0)) (Some ErrorByte) o)
 outer n x r o h = ⊎-elim (λ l. grind (arith, tells)) (λ l. let e = h l in grind (arith, tells)) (cases-lt n 3)
 
-pub reading-refused : (bs : List ℕ) → All (λ x. x < 256) bs → refusalIn (reading bs) ≡ firstOf (causes bs)
+pub reading-refused : (bs : List ℕ) → All (λ x. x < 256) bs → refusalIn (packetRead bs) ≡ firstOf (causes bs)
 reading-refused bs a =
     outer (length bs) (parity bs) (addressed (front bs)) (firstOf (addressCauses (front bs)))
     (λ l. two-up (front bs) (simp length-take (omega arith)) (all-take (λ x. x < 256) (length bs - 1) bs a))

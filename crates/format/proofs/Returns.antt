@@ -21,7 +21,7 @@ use Rattle.packet.specs.declared.instruction.Instruction.the-variants.{NoOperat
 use Rattle.packet.specs.declared.packet.Packet.{Packet}
 use Rattle.fault.specs.declared.refusal.Refusal.the-variants.{AccessoryHead}
 use Rattle.packet.specs.Parity.{parity, sealed}
-use Rattle.format.specs.Reading.{Asked, Told, packetOf, told, mobile, basic, extended, basicAddress, extendedAddress, isExtendedHead, long, idle, accessory, addressed, front, reading}
+use Rattle.format.specs.Reading.{Asked, Told, packetOf, told, mobile, basic, extended, basicAddress, extendedAddress, isExtendedHead, long, idle, accessory, addressed, front, packetRead}
 use Rattle.format.specs.Writing.{formOf, mobileBody, basicBody, extendedBody, bodyOf, outputBits, headOf, joined, encoded}
 use Rattle.format.proofs.Forths.{mobile-forth, basic-forth, extended-forth}
 use Rattle.packet.proofs.Parities.{parity-last}
@@ -153,10 +153,10 @@ front-seals bs l e =
     in
     ap (λ y. front bs ++ (y ∷ [])) (sym (parity-last (front bs) (getD bs (length bs - 1) 0) (ap parity s ∙ e))) ∙ s
 
-reading-parts : (bs : List ℕ) (p : Packet) → reading bs ≡ Ok p → (3 ≤ length bs) × (parity bs ≡ 0) × (addressed (front bs) ≡ Ok p)
+reading-parts : (bs : List ℕ) (p : Packet) → packetRead bs ≡ Ok p → (3 ≤ length bs) × (parity bs ≡ 0) × (addressed (front bs) ≡ Ok p)
 reading-parts bs p e = grind (arith, tells)
 
-pub read-writes : (bs : List ℕ) → All (λ b. b < 256) bs → (p : Packet) → reading bs ≡ Ok p → encoded (p .target) (p .instruction) ≡ Ok bs
+pub read-writes : (bs : List ℕ) → All (λ b. b < 256) bs → (p : Packet) → packetRead bs ≡ Ok p → encoded (p .target) (p .instruction) ≡ Ok bs
 unfolding encoded
 read-writes bs a p e =
     let q = reading-parts bs p e in

@@ -19,7 +19,7 @@ use Rattle.packet.specs.declared.instruction.FunctionGroup.{FunctionGroup}
 use Rattle.packet.specs.declared.instruction.FunctionGroup.the-variants.{F0ToF4, F5ToF8, F9ToF12, F13ToF20, F21ToF28, F29ToF36, F37ToF44, F45ToF52, F53ToF60, F61ToF68}
 use Rattle.fault.specs.declared.refusal.Refusal.the-variants.{FieldOutOfRange}
 use Rattle.packet.specs.Parity.{parity, sealed}
-use Rattle.format.specs.Reading.{Told, packetOf, told, mobile, basic, extended, long, accessory, addressed, front, reading}
+use Rattle.format.specs.Reading.{Told, packetOf, told, mobile, basic, extended, long, accessory, addressed, front, packetRead}
 use Rattle.format.specs.Writing.{Coded, Form, formOf, idleBody, mobileBody, basicBody, extendedBody, bodyOf, outputBits, headOf, below, functionBytes, joined, encoded}
 use Rattle.format.specs.Writing.Form.{nothing, mobileOnly, anyone, output, aspect}
 use Rattle.format.proofs.Backs.{mobile-back, basic-back, extended-back}
@@ -195,14 +195,14 @@ front-sealed bs =
     let l : length bs ≡ length (sealed bs) - 1 = simp length-append (omega arith) in
     take-at bs (parity bs ∷ []) (length (sealed bs) - 1) l
 
-sealed-reads : (bs : List ℕ) → 2 ≤ length bs → length bs ≤ 5 → reading (sealed bs) ≡ addressed bs
+sealed-reads : (bs : List ℕ) → 2 ≤ length bs → length bs ≤ 5 → packetRead (sealed bs) ≡ addressed bs
 sealed-reads bs l m =
     let f = front-sealed bs in
     let p = parity-sealed bs in
     let n : length (sealed bs) ≡ length bs + 1 = length-append bs (parity bs ∷ []) in
     grind (arith, tells)
 
-pub written-reads : (t : Target) (i : Instruction) (bs : List ℕ) → encoded t i ≡ Ok bs → reading bs ≡ Ok (packetOf t i)
+pub written-reads : (t : Target) (i : Instruction) (bs : List ℕ) → encoded t i ≡ Ok bs → packetRead bs ≡ Ok (packetOf t i)
 unfolding encoded
 written-reads t i bs e =
     let p = parts (headOf t (formOf i)) (bodyOf t (formOf i)) bs e in
@@ -210,5 +210,5 @@ written-reads t i bs e =
     let b = body-length t (formOf i) (p .body) (form-sized i) (p .body-is) in
     let k = head-short t in
     let n = length-append (p .head) (p .body) in
-    ap reading (sym (p .whole)) ∙ sealed-reads (p .head ++ p .body) (omega arith) (omega arith)
+    ap packetRead (sym (p .whole)) ∙ sealed-reads (p .head ++ p .body) (omega arith) (omega arith)
     ∙ addressed-back t i (p .head) (p .body) (p .head-is) (p .body-is)

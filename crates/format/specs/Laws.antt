@@ -10,7 +10,7 @@ use Rattle.fault.specs.declared.refusal.Refusal.{Refusal}
 use Rattle.packet.specs.declared.target.Target.{Target}
 use Rattle.packet.specs.declared.instruction.Instruction.{Instruction}
 use Rattle.packet.specs.declared.packet.Packet.{Packet}
-use Rattle.format.specs.Reading.{Told, packetOf, reading}
+use Rattle.format.specs.Reading.{Told, packetOf, packetRead}
 use Rattle.format.specs.Writing.{encoded}
 
 -- r is an answer to the bytes: what it accepts is written back to the bytes themselves
@@ -23,4 +23,4 @@ AllAccepted bs r = (t : Target) (i : Instruction) → encoded t i ≡ Ok bs → 
 
 -- what was written to the front of a place reads as itself
 abbrev pub ReadsBack : Target → Instruction → Result ℕ Refusal → List ℕ → Type 0
-ReadsBack t i r place = (n : ℕ) → r ≡ Ok n → reading (take n place) ≡ Ok (packetOf t i)
+ReadsBack t i r place = (n : ℕ) → r ≡ Ok n → packetRead (take n place) ≡ Ok (packetOf t i)

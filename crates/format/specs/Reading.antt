@@ -190,8 +190,8 @@ abbrev pub front : List ℕ → List ℕ
 front bs = take (length bs - 1) bs
 
 -- what a packet says, or why it is refused
-abbrev pub reading : List ℕ → Told
-reading bs =
+abbrev pub packetRead : List ℕ → Told
+packetRead bs =
     cond (ltb (length bs) 3) (Err PacketLength)
     (cond (ltb 6 (length bs)) (Err PacketLength)
     (cond (eqb (parity bs) 0) (addressed (front bs)) (Err ErrorByte)))

@@ -20,40 +20,40 @@ abbrev pub byte : ℕ → List ℕ → ℕ
 byte k bs = getD bs k 0
 
 -- the forms of an instruction: the first bytes that begin one, and how many bytes it has
-pub record Row : Type 0 where
+pub record Shape : Type 0 where
   pub from : ℕ
   pub to : ℕ
   pub size : ℕ
 
-abbrev pub row : ℕ → ℕ → ℕ → Row
-row from to size = record { from = from; to = to; size = size }
+abbrev pub shape : ℕ → ℕ → ℕ → Shape
+shape from to size = record { from = from; to = to; size = size }
 
 -- the long form: verify, bit operation, write
-abbrev pub cvForms : List Row
-cvForms = row 0xe4 0xef 3 ∷ []
+abbrev pub cvForms : List Shape
+cvForms = shape 0xe4 0xef 3 ∷ []
 
 -- to an extended accessory decoder: an aspect too
-abbrev pub aspectForms : List Row
-aspectForms = row 0x00 0x1f 1 ∷ cvForms
+abbrev pub aspectForms : List Shape
+aspectForms = shape 0x00 0x1f 1 ∷ cvForms
 
 -- to a mobile decoder: resets, addressing, acknowledgment request, consist, speeds, function groups one and two,
 -- long binary state, functions from F13 and short binary state, the two short-form writes, the long form
-abbrev pub mobileForms : List Row
+abbrev pub mobileForms : List Shape
 mobileForms =
-    row 0x00 0x01 1 ∷ row 0x0a 0x0b 1 ∷ row 0x0f 0x0f 1 ∷ row 0x12 0x13 2 ∷ row 0x3f 0x3f 2 ∷ row 0x40 0xbf 1
-    ∷ row 0xc0 0xc0 3 ∷ row 0xd8 0xdf 2 ∷ row 0xf2 0xf3 2 ∷ cvForms
+    shape 0x00 0x01 1 ∷ shape 0x0a 0x0b 1 ∷ shape 0x0f 0x0f 1 ∷ shape 0x12 0x13 2 ∷ shape 0x3f 0x3f 2 ∷ shape 0x40 0xbf 1
+    ∷ shape 0xc0 0xc0 3 ∷ shape 0xd8 0xdf 2 ∷ shape 0xf2 0xf3 2 ∷ cvForms
 
 -- how many bytes the form has that begins with b; 0 where none does
-abbrev pub sizeIn : List Row → ℕ → ℕ
+abbrev pub sizeIn : List Shape → ℕ → ℕ
 sizeIn [] b = 0
 sizeIn (r ∷ rs) b = cond (within (r .from) (r .to) b) (r .size) (sizeIn rs b)
 
 -- the tests of an instruction among some forms: its first byte begins none; its length is another; a later byte has a
 -- reserved value
-abbrev pub noForm : List Row → List ℕ → Bool
+abbrev pub noForm : List Shape → List ℕ → Bool
 noForm forms is = eqb (sizeIn forms (byte 0 is)) 0
 
-abbrev pub wrongSize : List Row → List ℕ → Bool
+abbrev pub wrongSize : List Shape → List ℕ → Bool
 wrongSize forms is = not (eqb (length is) (sizeIn forms (byte 0 is)))
 
 -- a bit operation ends in 111xxxxx

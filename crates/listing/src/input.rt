@@ -5,7 +5,7 @@ use std::io;
 use std::io::Read;
 
 /// Fills the place from standard input, and answers how many bytes there were; what finds no room is not read.
-pub fn read_up_to(rt: &LibcRuntime, place: &mut [u8]) -> io::Result<usize>
+pub(crate) fn read_up_to(rt: &LibcRuntime, place: &mut [u8]) -> io::Result<usize>
     ensures { λ r. ⌜ made r (λ n. n ≤ length (now (place .exit))) ⌝ }
 {
     let mut count = 0;

@@ -28,7 +28,7 @@ fn hex(heap: Global, bytes: &[u8]) -> Result<String, AllocError> {
 }
 
 impl Tally {
-    pub fn new() -> Tally {
+    pub(crate) fn new() -> Tally {
         Tally {
             accepted: 0,
             refused: 0,
@@ -38,7 +38,7 @@ impl Tally {
     }
 
     /// Prints one record and counts it.
-    pub fn show(&mut self, rt: &LibcRuntime, carried: Carried<'_>) -> Result<(), AnyError> {
+    pub(crate) fn show(&mut self, rt: &LibcRuntime, carried: Carried<'_>) -> Result<(), AnyError> {
         let offset = carried.offset;
         match carried.record {
             Record::Fill => {
@@ -81,7 +81,7 @@ impl Tally {
     }
 
     /// Prints how many of each there were.
-    pub fn close(self, rt: &LibcRuntime) -> Result<(), AnyError> {
+    pub(crate) fn close(self, rt: &LibcRuntime) -> Result<(), AnyError> {
         let accepted = self.accepted;
         let refused = self.refused;
         let packets = accepted.saturating_add(refused);

@@ -1,6 +1,6 @@
 ghost use mathlib.Core.Path.{_≡_};
 ghost use Prim.Native.Nat.{_+_, _-_, _*_, _≤_};
-ghost use Rattle.format.specs.Reading.{told, long as longOf, idle as idleOf, byAddress, addressed as addressedOf, reading};
+ghost use Rattle.format.specs.Reading.{told, long as longOf, idle as idleOf, byAddress, addressed as addressedOf, packetRead};
 ghost use Rattle.format.specs.Laws.{WrittenBack, AllAccepted};
 ghost use Rattle.format.specs.Refusing.{refusalIn, firstOf, causes};
 use crate::accessory::accessory;
@@ -79,7 +79,7 @@ fn addressed(bytes: &[u8]) -> Result<Packet, Refusal>
 }
 
 fn decode(packet: &[u8]) -> Result<Packet, Refusal>
-    ensures { λ r. ⌜ r ≡ reading (now (packet .entry)) ⌝ }
+    ensures { λ r. ⌜ r ≡ packetRead (now (packet .entry)) ⌝ }
 {
     if packet.len() < 3 || packet.len() > 6 {
         return Err(Refusal::PacketLength);
@@ -92,7 +92,7 @@ fn decode(packet: &[u8]) -> Result<Packet, Refusal>
 
 /// What a packet says, or the first cause for which it is refused. What it accepts is exactly what `write` writes.
 pub fn read(packet: &[u8]) -> Result<Packet, Refusal>
-    ensures value { λ r. ⌜ r ≡ reading (now (packet .entry)) ⌝ }
+    ensures value { λ r. ⌜ r ≡ packetRead (now (packet .entry)) ⌝ }
     ensures written_back { λ r. ⌜ WrittenBack (now (packet .entry)) r ⌝ }
     ensures all_accepted { λ r. ⌜ AllAccepted (now (packet .entry)) r ⌝ }
     ensures refused { λ r. ⌜ refusalIn r ≡ firstOf (causes (now (packet .entry))) ⌝ }

@@ -39,7 +39,7 @@ fn layer_name(layer: Layer) -> &'static str {
 }
 
 /// Prints every refusal with its number, its layer and its name.
-pub fn show_refusals(rt: &LibcRuntime) -> Result<(), AnyError> {
+pub(crate) fn show_refusals(rt: &LibcRuntime) -> Result<(), AnyError> {
     for refusal in ALL {
         let number = refusal.number();
         let layer = layer_name(refusal.layer());

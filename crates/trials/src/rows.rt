@@ -57,7 +57,7 @@ fn said(heap: Global, bytes: &[u8]) -> Result<String, AllocError> {
 }
 
 /// Compares one row, `BYTES = WORDS`, with what the reader makes of its bytes.
-pub fn judge(heap: Global, line: &str) -> Result<Verdict, AllocError> {
+pub(crate) fn judge(heap: Global, line: &str) -> Result<Verdict, AllocError> {
     if line.is_empty() || line.starts_with('#') {
         return Ok(Verdict::Comment);
     }
