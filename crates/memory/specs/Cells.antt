@@ -1,6 +1,6 @@
 -- What the cells of a memory answer to a read and a write, and the cells of bytes, of words and of a strip.
 use mathlib.Core.Bool.{Bool, true, false, cond}
-use mathlib.Core.List.{List, [], _∷_, map}
+use mathlib.Core.List.{List, [], _∷_, _++_, map}
 use Prim.Native.Nat.{ℕ, _+_, _/_, _%_, _<_}
 use lib.Dec.{ltb, leb}
 use lib.ListN.{length, getD, set, take, drop}
@@ -41,6 +41,24 @@ stripCells cells first count = take count (drop first cells)
 -- whether a strip lies within the cells; if not, the refusal names its first cell
 abbrev pub stripCheck : List ℕ → ℕ → ℕ → Result Unit Fault
 stripCheck cells first count = cond (leb (first + count) (length cells)) (Ok tt) (Err (outOfRange first))
+
+-- where a strip lies among the cells below, and the cells there that are not its own
+pub record Outside : Type 0 where
+  pub first : ℕ
+  pub count : ℕ
+  pub before : List ℕ
+  pub behind : List ℕ
+
+abbrev pub outsideOf : List ℕ → ℕ → ℕ → Outside
+outsideOf cells first count = record { first = first; count = count; before = take first cells; behind = drop (first + count) cells }
+
+-- nothing lies outside of a memory that holds its cells itself
+abbrev pub noneOutside : List ℕ → List Outside
+noneOutside cells = []
+
+-- the cells below: those outside with the strip's own between them
+abbrev pub putBack : Outside → List ℕ → List ℕ
+putBack o cells = o .before ++ (cells ++ o .behind)
 
 -- the cells below a strip after a byte was written to one of the strip's cells, if it has that cell
 abbrev pub stripWrite : List ℕ → ℕ → ℕ → ℕ → ℕ → List ℕ

@@ -1,17 +1,26 @@
--- A strip by the cells of the memory that it holds; `cells` is what such a memory means.
-use mathlib.Core.List.{List}
+-- A strip by what the memory below it means: its cells, and what lies outside of those.
+use mathlib.Core.List.{List, _∷_}
 use Prim.Native.Nat.{ℕ}
-use Rattle.memory.specs.Cells.{stripCells, stripWrite}
+use Rattle.memory.specs.Cells.{Outside, outsideOf, putBack, stripCells, stripWrite}
 use Rattle.memory.specs.declared.strip.Strip.{Strip}
 
--- the cells below the strip
-abbrev pub under : {M : Type 0} → (M → List ℕ) → Strip M → List ℕ
-under cells s = cells (s .below)
+module _ {M : Type 0} (cells : M → List ℕ) where
+  -- the cells below the strip
+  abbrev pub under : Strip M → List ℕ
+  under s = cells (s .below)
 
--- the strip's own cells
-abbrev pub shown : {M : Type 0} → (M → List ℕ) → Strip M → List ℕ
-shown cells s = stripCells (cells (s .below)) (s .first) (s .count)
+  -- the strip's own cells
+  abbrev pub shown : Strip M → List ℕ
+  shown s = stripCells (cells (s .below)) (s .first) (s .count)
 
--- the cells below once a byte is written to a cell of the strip
-abbrev pub written : {M : Type 0} → (M → List ℕ) → Strip M → ℕ → ℕ → List ℕ
-written cells s cell b = stripWrite (cells (s .below)) (s .first) (s .count) cell b
+  -- the cells below once a byte is written to a cell of the strip
+  abbrev pub written : Strip M → ℕ → ℕ → List ℕ
+  written s cell b = stripWrite (cells (s .below)) (s .first) (s .count) cell b
+
+  -- the cells before the strip, its own, and those behind it
+  abbrev pub rejoined : Strip M → List ℕ
+  rejoined s = putBack (outsideOf (cells (s .below)) (s .first) (s .count)) (shown s)
+
+  -- what lies outside of the strip, and outside of all that it lies in
+  abbrev pub outsides : (M → List Outside) → Strip M → List Outside
+  outsides outer s = outsideOf (cells (s .below)) (s .first) (s .count) ∷ outer (s .below)

@@ -1,7 +1,7 @@
 ghost use mathlib.Core.Path.{_≡_};
 ghost use denote.Ref.{name};
 ghost use lib.ListN.{set};
-ghost use Rattle.memory.specs.Cells.{AreBytes, byteCells, cellRead, cellWrite};
+ghost use Rattle.memory.specs.Cells.{AreBytes, byteCells, cellRead, cellWrite, noneOutside};
 ghost use Rattle.memory.specs.Bounds.{bytes-fit};
 use crate::memory::Memory;
 use crate::refusing::out_of_range;
@@ -27,6 +27,8 @@ impl<'a> ByteMemory<'a> {
 pub impl<'a> Memory for ByteMemory<'a> as ByteMemoryMemory {
     ghost cells = { λ m. byteCells (m .bytes .now) };
 
+    ghost outside = { λ m. noneOutside (byteCells (m .bytes .now)) };
+
     ghost fits = { λ m. bytes-fit (m .bytes .now) };
 
     fn count(&self) -> usize {
@@ -36,6 +38,7 @@ pub impl<'a> Memory for ByteMemory<'a> as ByteMemoryMemory {
     fn read(&mut self, cell: usize) -> Result<u8, Fault>
         ensures answer { λ r. ⌜ r ≡ cellRead (byteCells (now (self .entry) .bytes .now)) cell ⌝ }
         ensures same { λ _. ⌜ byteCells (now (self .exit) .bytes .now) ≡ byteCells (now (self .entry) .bytes .now) ⌝ }
+        ensures outside { λ _. ⌜ noneOutside (byteCells (now (self .exit) .bytes .now)) ≡ noneOutside (byteCells (now (self .entry) .bytes .now)) ⌝ }
         ensures lender { λ _. ⌜ name (now (self .exit) .bytes) ≡ name (now (self .entry) .bytes) ⌝ }
     {
         if cell < self.bytes.len() {
@@ -49,6 +52,7 @@ pub impl<'a> Memory for ByteMemory<'a> as ByteMemoryMemory {
     fn write(&mut self, cell: usize, byte: u8) -> Result<(), Fault>
         ensures answer { λ r. ⌜ r ≡ cellWrite (byteCells (now (self .entry) .bytes .now)) cell ⌝ }
         ensures after { λ _. ⌜ byteCells (now (self .exit) .bytes .now) ≡ set (byteCells (now (self .entry) .bytes .now)) cell byte ⌝ }
+        ensures outside { λ _. ⌜ noneOutside (byteCells (now (self .exit) .bytes .now)) ≡ noneOutside (byteCells (now (self .entry) .bytes .now)) ⌝ }
         ensures lender { λ _. ⌜ name (now (self .exit) .bytes) ≡ name (now (self .entry) .bytes) ⌝ }
     {
         if cell < self.bytes.len() {

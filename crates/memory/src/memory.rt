@@ -2,7 +2,7 @@ ghost use mathlib.Core.Path.{_≡_};
 ghost use mathlib.Core.List.{List};
 ghost use Prim.Native.Nat.{ℕ, _^_, _<_};
 ghost use lib.ListN.{length, getD, set};
-ghost use Rattle.memory.specs.Cells.{cellRead, cellWrite};
+ghost use Rattle.memory.specs.Cells.{Outside, cellRead, cellWrite};
 use fault::Fault;
 
 /// A fixed count of byte cells, numbered from 0.
@@ -10,6 +10,8 @@ use fault::Fault;
 /// Only a cell at or beyond the count is refused, and then no cell changes.
 pub trait Memory {
     ghost cells: { Self → List ℕ };
+
+    ghost outside: { Self → List Outside };
 
     ghost fits: { (m : Self) (k : ℕ) → getD (cells m) k 0 < 256 };
 
@@ -21,10 +23,12 @@ pub trait Memory {
     /// The byte in a cell. No cell changes, though the memory may move things inside.
     fn read(&mut self, cell: usize) -> Result<u8, Fault>
         ensures answer { λ r. ⌜ r ≡ cellRead (cells (now (self .entry))) cell ⌝ }
-        ensures same { λ _. ⌜ cells (now (self .exit)) ≡ cells (now (self .entry)) ⌝ };
+        ensures same { λ _. ⌜ cells (now (self .exit)) ≡ cells (now (self .entry)) ⌝ }
+        ensures outside { λ _. ⌜ outside (now (self .exit)) ≡ outside (now (self .entry)) ⌝ };
 
     /// Puts the byte into that cell alone.
     fn write(&mut self, cell: usize, byte: u8) -> Result<(), Fault>
         ensures answer { λ r. ⌜ r ≡ cellWrite (cells (now (self .entry))) cell ⌝ }
-        ensures after { λ _. ⌜ cells (now (self .exit)) ≡ set (cells (now (self .entry))) cell byte ⌝ };
+        ensures after { λ _. ⌜ cells (now (self .exit)) ≡ set (cells (now (self .entry))) cell byte ⌝ }
+        ensures outside { λ _. ⌜ outside (now (self .exit)) ≡ outside (now (self .entry)) ⌝ };
 }

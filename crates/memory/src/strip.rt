@@ -1,9 +1,9 @@
 ghost use mathlib.Core.Path.{_≡_};
 ghost use Prim.Native.Nat.{_^_, _<_};
 ghost use lib.ListN.{length, set};
-ghost use Rattle.memory.specs.Cells.{cellRead, cellWrite, stripCheck};
+ghost use Rattle.memory.specs.Cells.{cellRead, cellWrite, stripCells, stripCheck};
 ghost use Rattle.memory.specs.Bounds.{strip-fits};
-ghost use Rattle.memory.specs.Strips.{under, shown, written};
+ghost use Rattle.memory.specs.Strips.{under, shown, written, outsides, rejoined};
 use crate::memory::Memory;
 use crate::refusing::out_of_range;
 use fault::Fault;
@@ -33,7 +33,9 @@ impl<M: Memory> Strip<M> {
 
     /// The `count` cells from `first` on, or as many of them as there are.
     pub fn new(below: M, first: usize, count: usize) -> Strip<M>
-        ensures { λ r. ⌜ r ≡ record { below = below; first = first; count = count } ⌝ }
+        ensures is { λ r. ⌜ r ≡ record { below = below; first = first; count = count } ⌝ }
+        ensures cells { λ r. ⌜ shown (M·Memory .cells) r ≡ stripCells (M·Memory .cells below) first count ⌝ }
+        ensures below { λ r. ⌜ under (M·Memory .cells) r ≡ M·Memory .cells below ⌝ }
     {
         Strip {
             below,
@@ -44,7 +46,8 @@ impl<M: Memory> Strip<M> {
 
     /// The memory below, with what was written through the strip.
     pub fn into_inner(self) -> M
-        ensures { λ r. ⌜ r ≡ self .below ⌝ }
+        ensures is { λ r. ⌜ r ≡ self .below ⌝ }
+        ensures cells { λ r. ⌜ M·Memory .cells r ≡ rejoined (M·Memory .cells) self ⌝ }
     {
         self.below
     }
@@ -52,6 +55,8 @@ impl<M: Memory> Strip<M> {
 
 pub impl<M: Memory> Memory for Strip<M> as StripMemory {
     ghost cells = { shown (M·Memory .cells) };
+
+    ghost outside = { outsides (M·Memory .cells) (M·Memory .outside) };
 
     ghost fits = { λ s. strip-fits (M·Memory .cells (s .below)) (s .first) (s .count) (M·Memory .fits (s .below)) };
 
@@ -67,6 +72,7 @@ pub impl<M: Memory> Memory for Strip<M> as StripMemory {
     fn read(&mut self, cell: usize) -> Result<u8, Fault>
         ensures answer { λ r. ⌜ r ≡ cellRead (shown (M·Memory .cells) (now (self .entry))) cell ⌝ }
         ensures same { λ _. ⌜ shown (M·Memory .cells) (now (self .exit)) ≡ shown (M·Memory .cells) (now (self .entry)) ⌝ }
+        ensures outside { λ _. ⌜ outsides (M·Memory .cells) (M·Memory .outside) (now (self .exit)) ≡ outsides (M·Memory .cells) (M·Memory .outside) (now (self .entry)) ⌝ }
         ensures below { λ _. ⌜ under (M·Memory .cells) (now (self .exit)) ≡ under (M·Memory .cells) (now (self .entry)) ⌝ }
         ensures first { λ _. ⌜ now (self .exit) .first ≡ now (self .entry) .first ⌝ }
         ensures count { λ _. ⌜ now (self .exit) .count ≡ now (self .entry) .count ⌝ }
@@ -81,6 +87,7 @@ pub impl<M: Memory> Memory for Strip<M> as StripMemory {
     fn write(&mut self, cell: usize, byte: u8) -> Result<(), Fault>
         ensures answer { λ r. ⌜ r ≡ cellWrite (shown (M·Memory .cells) (now (self .entry))) cell ⌝ }
         ensures after { λ _. ⌜ shown (M·Memory .cells) (now (self .exit)) ≡ set (shown (M·Memory .cells) (now (self .entry))) cell byte ⌝ }
+        ensures outside { λ _. ⌜ outsides (M·Memory .cells) (M·Memory .outside) (now (self .exit)) ≡ outsides (M·Memory .cells) (M·Memory .outside) (now (self .entry)) ⌝ }
         ensures below { λ _. ⌜ under (M·Memory .cells) (now (self .exit)) ≡ written (M·Memory .cells) (now (self .entry)) cell byte ⌝ }
         ensures first { λ _. ⌜ now (self .exit) .first ≡ now (self .entry) .first ⌝ }
         ensures count { λ _. ⌜ now (self .exit) .count ≡ now (self .entry) .count ⌝ }

@@ -1,5 +1,7 @@
 ghost use mathlib.Core.Path.{_≡_};
-ghost use Rattle.memory.specs.Cells.{wordCells};
+ghost use denote.Ref.{name};
+ghost use lib.ListN.{set};
+ghost use Rattle.memory.specs.Cells.{wordCells, cellRead, cellWrite, noneOutside};
 ghost use Rattle.memory.specs.Bounds.{words-fit};
 use crate::memory::Memory;
 use crate::refusing::out_of_range;
@@ -14,7 +16,8 @@ pub struct WordMemory<'a> {
 impl<'a> WordMemory<'a> {
     /// The words as they stand hold the cells.
     pub fn new(words: &'a mut [u16]) -> WordMemory<'a>
-        ensures { λ r. ⌜ r .words .now ≡ now (words .entry) ⌝ }
+        ensures holds { λ r. ⌜ r .words .now ≡ now (words .entry) ⌝ }
+        ensures lender { λ r. ⌜ name (r .words) ≡ name (words .entry) ⌝ }
     {
         WordMemory { words }
     }
@@ -23,13 +26,20 @@ impl<'a> WordMemory<'a> {
 pub impl<'a> Memory for WordMemory<'a> as WordMemoryMemory {
     ghost cells = { λ m. wordCells (m .words .now) };
 
+    ghost outside = { λ m. noneOutside (wordCells (m .words .now)) };
+
     ghost fits = { λ m. words-fit (m .words .now) };
 
     fn count(&self) -> usize {
         2 * self.words.len()
     }
 
-    fn read(&mut self, cell: usize) -> Result<u8, Fault> {
+    fn read(&mut self, cell: usize) -> Result<u8, Fault>
+        ensures answer { λ r. ⌜ r ≡ cellRead (wordCells (now (self .entry) .words .now)) cell ⌝ }
+        ensures same { λ _. ⌜ wordCells (now (self .exit) .words .now) ≡ wordCells (now (self .entry) .words .now) ⌝ }
+        ensures outside { λ _. ⌜ noneOutside (wordCells (now (self .exit) .words .now)) ≡ noneOutside (wordCells (now (self .entry) .words .now)) ⌝ }
+        ensures lender { λ _. ⌜ name (now (self .exit) .words) ≡ name (now (self .entry) .words) ⌝ }
+    {
         let place = cell / 2;
         if place < self.words.len() {
             let word = self.words[place];
@@ -43,7 +53,12 @@ pub impl<'a> Memory for WordMemory<'a> as WordMemoryMemory {
         }
     }
 
-    fn write(&mut self, cell: usize, byte: u8) -> Result<(), Fault> {
+    fn write(&mut self, cell: usize, byte: u8) -> Result<(), Fault>
+        ensures answer { λ r. ⌜ r ≡ cellWrite (wordCells (now (self .entry) .words .now)) cell ⌝ }
+        ensures after { λ _. ⌜ wordCells (now (self .exit) .words .now) ≡ set (wordCells (now (self .entry) .words .now)) cell byte ⌝ }
+        ensures outside { λ _. ⌜ noneOutside (wordCells (now (self .exit) .words .now)) ≡ noneOutside (wordCells (now (self .entry) .words .now)) ⌝ }
+        ensures lender { λ _. ⌜ name (now (self .exit) .words) ≡ name (now (self .entry) .words) ⌝ }
+    {
         let place = cell / 2;
         if place < self.words.len() {
             let word = self.words[place];

@@ -1,6 +1,6 @@
 use borrow.Author.Needs.{needs}
 use Rattle.std.proofs.shelf.Lists.{set-past}
-use Rattle.memory.proofs.StripCells.{strip-within, strip-write, strip-set}
+use Rattle.memory.proofs.StripCells.{strip-within, strip-write, strip-set, strip-outside}
 use Rattle.memory.proofs.strip.StripMemory.write.Needs as need
 
 pub add-self : need.add-self
@@ -11,6 +11,7 @@ returns-then-cell-count g c =
     record {
       answer = search (needs, strip-write);
       after = search (needs, strip-set);
+      outside = search (needs, strip-outside);
       below = search needs;
       first = search needs;
       count = search needs;
