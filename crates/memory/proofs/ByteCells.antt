@@ -1,14 +1,14 @@
 -- Where a byte stands among the cells of bytes.
-use mathlib.Core.Path.{_≡_, refl, sym, ap, _∙_}
+use mathlib.Core.Path.{_≡_, refl, ap, _∙_}
 use mathlib.Core.List.{List, [], _∷_}
 use Prim.Native.Nat.{ℕ, zero, suc, _%_, _<_, _≤_}
 use native.Mathlib.Omega.{arith}
 use lib.ListN.{length, getD, set}
 use Rattle.std.proofs.shelf.Lists.{getD-map, map-set}
-use Rattle.std.specs.declared.result.Result.the-variants.{Ok, Err}
+use Rattle.std.specs.declared.result.Result.the-variants.{Ok}
 use borrow.Author.Needs.{needs}
 use Rattle.memory.specs.Bounds.{length-bytes}
-use Rattle.memory.specs.Cells.{AreBytes, outOfRange, cellRead, cellWrite, byteCells}
+use Rattle.memory.specs.Cells.{AreBytes, cellRead, cellWrite, byteCells}
 
 low-byte : (b : ℕ) → b < 256 → b % 256 ≡ b
 low-byte b h = omega arith

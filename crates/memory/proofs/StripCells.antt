@@ -1,13 +1,10 @@
 -- What the cells of a strip are among the cells below.
 use mathlib.Core.Path.{_≡_, refl, sym, ap, _∙_}
-use mathlib.Core.Bool.{true, cond}
 use mathlib.Core.List.{List, [], _∷_, _++_}
-use Prim.Native.Nat.{ℕ, zero, suc, min, _+_, _-_, _<_, _≤_}
+use Prim.Native.Nat.{ℕ, zero, suc, _+_, _-_, _<_, _≤_}
 use native.Mathlib.Omega.{arith}
-use lib.Dec.{ltb}
-use lib.ListN.{length, getD, set, take, drop, length-take, length-drop}
-use Rattle.std.proofs.shelf.Lists.{getD-take, getD-drop, drop-set-add, drop-drop, take-append-drop, places}
-use Rattle.std.proofs.shelf.Tests.{cases-lt}
+use lib.ListN.{length, set, take, drop}
+use Rattle.std.proofs.shelf.Lists.{drop-set-add, drop-drop, take-append-drop, places}
 use borrow.Author.Needs.{needs}
 use Rattle.memory.specs.Bounds.{length-strip}
 use Rattle.memory.specs.Cells.{outsideOf, putBack, cellRead, cellWrite, stripCells}
@@ -56,5 +53,5 @@ strip-outside cells first count cell b h =
 pub strip-whole : (cells : List ℕ) (first count : ℕ) → cells ≡ putBack (outsideOf cells first count) (stripCells cells first count)
 strip-whole cells first count =
     let back : stripCells cells first count ++ drop (first + count) cells ≡ drop first cells
-        = ap (λ r. stripCells cells first count ++ r) (sym (drop-drop count first cells)) ∙ take-append-drop count (drop first cells) in
+    = ap (λ r. stripCells cells first count ++ r) (sym (drop-drop count first cells)) ∙ take-append-drop count (drop first cells) in
     sym (ap (λ r. take first cells ++ r) back ∙ take-append-drop first cells)

@@ -4,10 +4,10 @@ use mathlib.Core.List.{List, [], _∷_}
 use Prim.Native.Nat.{ℕ, zero, suc, _+_, _*_, _/_, _%_, _<_, _≤_}
 use native.Mathlib.Omega.{arith}
 use lib.ListN.{length, getD, set}
-use Rattle.std.specs.declared.result.Result.the-variants.{Ok, Err}
+use Rattle.std.specs.declared.result.Result.the-variants.{Ok}
 use borrow.Author.Needs.{needs}
 use Rattle.memory.specs.Bounds.{length-words}
-use Rattle.memory.specs.Cells.{outOfRange, cellRead, cellWrite, wordCells}
+use Rattle.memory.specs.Cells.{cellRead, cellWrite, wordCells}
 
 twice : (q : ℕ) → 2 * suc q ≡ suc (suc (2 * q))
 twice q = omega arith

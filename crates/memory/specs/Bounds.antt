@@ -1,7 +1,7 @@
--- The cells of bytes, of words and of a strip are bytes, and few enough to be counted.
-use mathlib.Core.Path.{_≡_, refl, sym, ap, _∙_}
+-- How many cells bytes, words and a strip have, and that every cell is a byte.
+use mathlib.Core.Path.{_≡_, refl, ap, _∙_}
 use mathlib.Core.List.{List, [], _∷_}
-use Prim.Native.Nat.{ℕ, zero, suc, min, _+_, _-_, _*_, _/_, _%_, _^_, _<_, _≤_}
+use Prim.Native.Nat.{ℕ, zero, suc, min, _-_, _*_, _<_}
 use native.Mathlib.Omega.{arith}
 use lib.ListN.{length, getD, take, drop, length-take, length-drop}
 use Rattle.memory.specs.Cells.{byteCells, wordCells, stripCells}

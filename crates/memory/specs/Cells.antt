@@ -1,5 +1,5 @@
 -- What the cells of a memory answer to a read and a write, and the cells of bytes, of words and of a strip.
-use mathlib.Core.Bool.{Bool, true, false, cond}
+use mathlib.Core.Bool.{cond}
 use mathlib.Core.List.{List, [], _∷_, _++_, map}
 use Prim.Native.Nat.{ℕ, _+_, _/_, _%_, _<_}
 use lib.Dec.{ltb, leb}

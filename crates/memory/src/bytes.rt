@@ -14,7 +14,7 @@ pub struct ByteMemory<'a> {
 }
 
 impl<'a> ByteMemory<'a> {
-    /// The bytes as they stand are the cells.
+    /// The cells are the bytes as they stand, and what is written to a cell stands in the slice.
     pub fn new(bytes: &'a mut [u8]) -> ByteMemory<'a>
         ensures holds { λ r. ⌜ r .bytes .now ≡ now (bytes .entry) ⌝ }
         ensures lender { λ r. ⌜ name (r .bytes) ≡ name (bytes .entry) ⌝ }
@@ -55,11 +55,10 @@ pub impl<'a> Memory for ByteMemory<'a> as ByteMemoryMemory {
         ensures outside { λ _. ⌜ noneOutside (byteCells (now (self .exit) .bytes .now)) ≡ noneOutside (byteCells (now (self .entry) .bytes .now)) ⌝ }
         ensures lender { λ _. ⌜ name (now (self .exit) .bytes) ≡ name (now (self .entry) .bytes) ⌝ }
     {
-        if cell < self.bytes.len() {
-            self.bytes[cell] = byte;
-            Ok(())
-        } else {
-            Err(out_of_range(cell))
+        if cell >= self.bytes.len() {
+            return Err(out_of_range(cell));
         }
+        self.bytes[cell] = byte;
+        Ok(())
     }
 }

@@ -9,10 +9,13 @@ use fault::Fault;
 ///
 /// Only a cell at or beyond the count is refused, and then no cell changes.
 pub trait Memory {
+    // The bytes in the cells.
     ghost cells: { Self → List ℕ };
 
+    // What lies outside of the cells in each memory that this one is a part of, the nearest first.
     ghost outside: { Self → List Outside };
 
+    // Every cell holds a byte.
     ghost fits: { (m : Self) (k : ℕ) → getD (cells m) k 0 < 256 };
 
     /// How many cells there are.
@@ -26,7 +29,7 @@ pub trait Memory {
         ensures same { λ _. ⌜ cells (now (self .exit)) ≡ cells (now (self .entry)) ⌝ }
         ensures outside { λ _. ⌜ outside (now (self .exit)) ≡ outside (now (self .entry)) ⌝ };
 
-    /// Puts the byte into that cell alone.
+    /// Puts the byte into that cell alone: nothing else changes, here or in a memory that this one is a part of.
     fn write(&mut self, cell: usize, byte: u8) -> Result<(), Fault>
         ensures answer { λ r. ⌜ r ≡ cellWrite (cells (now (self .entry))) cell ⌝ }
         ensures after { λ _. ⌜ cells (now (self .exit)) ≡ set (cells (now (self .entry))) cell byte ⌝ }

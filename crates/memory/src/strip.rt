@@ -3,7 +3,7 @@ ghost use Prim.Native.Nat.{_^_, _<_};
 ghost use lib.ListN.{length, set};
 ghost use Rattle.memory.specs.Cells.{cellRead, cellWrite, stripCells, stripCheck};
 ghost use Rattle.memory.specs.Bounds.{strip-fits};
-ghost use Rattle.memory.specs.Strips.{under, shown, written, outsides, rejoined};
+ghost use Rattle.memory.specs.Strips.{cellsBelow, cellsWithin, belowWritten, outsides, rejoined};
 use crate::memory::Memory;
 use crate::refusing::out_of_range;
 use fault::Fault;
@@ -34,8 +34,8 @@ impl<M: Memory> Strip<M> {
     /// The `count` cells from `first` on, or as many of them as there are.
     pub fn new(below: M, first: usize, count: usize) -> Strip<M>
         ensures is { λ r. ⌜ r ≡ record { below = below; first = first; count = count } ⌝ }
-        ensures cells { λ r. ⌜ shown (M·Memory .cells) r ≡ stripCells (M·Memory .cells below) first count ⌝ }
-        ensures below { λ r. ⌜ under (M·Memory .cells) r ≡ M·Memory .cells below ⌝ }
+        ensures cells { λ r. ⌜ cellsWithin (M·Memory .cells) r ≡ stripCells (M·Memory .cells below) first count ⌝ }
+        ensures below { λ r. ⌜ cellsBelow (M·Memory .cells) r ≡ M·Memory .cells below ⌝ }
     {
         Strip {
             below,
@@ -49,31 +49,32 @@ impl<M: Memory> Strip<M> {
         ensures is { λ r. ⌜ r ≡ self .below ⌝ }
         ensures cells { λ r. ⌜ M·Memory .cells r ≡ rejoined (M·Memory .cells) self ⌝ }
     {
-        self.below
+        let Strip { below, .. } = self;
+        below
     }
 }
 
 pub impl<M: Memory> Memory for Strip<M> as StripMemory {
-    ghost cells = { shown (M·Memory .cells) };
+    ghost cells = { cellsWithin (M·Memory .cells) };
 
     ghost outside = { outsides (M·Memory .cells) (M·Memory .outside) };
 
     ghost fits = { λ s. strip-fits (M·Memory .cells (s .below)) (s .first) (s .count) (M·Memory .fits (s .below)) };
 
     fn count(&self) -> usize
-        ensures answer { λ r. ⌜ r ≡ length (shown (M·Memory .cells) (now (self .entry))) ⌝ }
-        ensures small { λ _. ⌜ length (shown (M·Memory .cells) (now (self .entry))) < 2 ^ 64 ⌝ }
-        ensures below { λ _. ⌜ length (under (M·Memory .cells) (now (self .entry))) < 2 ^ 64 ⌝ }
+        ensures answer { λ r. ⌜ r ≡ length (cellsWithin (M·Memory .cells) (now (self .entry))) ⌝ }
+        ensures small { λ _. ⌜ length (cellsWithin (M·Memory .cells) (now (self .entry))) < 2 ^ 64 ⌝ }
+        ensures below { λ _. ⌜ length (cellsBelow (M·Memory .cells) (now (self .entry))) < 2 ^ 64 ⌝ }
     {
         self.count
             .min(self.below.count().saturating_sub(self.first))
     }
 
     fn read(&mut self, cell: usize) -> Result<u8, Fault>
-        ensures answer { λ r. ⌜ r ≡ cellRead (shown (M·Memory .cells) (now (self .entry))) cell ⌝ }
-        ensures same { λ _. ⌜ shown (M·Memory .cells) (now (self .exit)) ≡ shown (M·Memory .cells) (now (self .entry)) ⌝ }
+        ensures answer { λ r. ⌜ r ≡ cellRead (cellsWithin (M·Memory .cells) (now (self .entry))) cell ⌝ }
+        ensures same { λ _. ⌜ cellsWithin (M·Memory .cells) (now (self .exit)) ≡ cellsWithin (M·Memory .cells) (now (self .entry)) ⌝ }
         ensures outside { λ _. ⌜ outsides (M·Memory .cells) (M·Memory .outside) (now (self .exit)) ≡ outsides (M·Memory .cells) (M·Memory .outside) (now (self .entry)) ⌝ }
-        ensures below { λ _. ⌜ under (M·Memory .cells) (now (self .exit)) ≡ under (M·Memory .cells) (now (self .entry)) ⌝ }
+        ensures below { λ _. ⌜ cellsBelow (M·Memory .cells) (now (self .exit)) ≡ cellsBelow (M·Memory .cells) (now (self .entry)) ⌝ }
         ensures first { λ _. ⌜ now (self .exit) .first ≡ now (self .entry) .first ⌝ }
         ensures count { λ _. ⌜ now (self .exit) .count ≡ now (self .entry) .count ⌝ }
     {
@@ -85,17 +86,16 @@ pub impl<M: Memory> Memory for Strip<M> as StripMemory {
     }
 
     fn write(&mut self, cell: usize, byte: u8) -> Result<(), Fault>
-        ensures answer { λ r. ⌜ r ≡ cellWrite (shown (M·Memory .cells) (now (self .entry))) cell ⌝ }
-        ensures after { λ _. ⌜ shown (M·Memory .cells) (now (self .exit)) ≡ set (shown (M·Memory .cells) (now (self .entry))) cell byte ⌝ }
+        ensures answer { λ r. ⌜ r ≡ cellWrite (cellsWithin (M·Memory .cells) (now (self .entry))) cell ⌝ }
+        ensures after { λ _. ⌜ cellsWithin (M·Memory .cells) (now (self .exit)) ≡ set (cellsWithin (M·Memory .cells) (now (self .entry))) cell byte ⌝ }
         ensures outside { λ _. ⌜ outsides (M·Memory .cells) (M·Memory .outside) (now (self .exit)) ≡ outsides (M·Memory .cells) (M·Memory .outside) (now (self .entry)) ⌝ }
-        ensures below { λ _. ⌜ under (M·Memory .cells) (now (self .exit)) ≡ written (M·Memory .cells) (now (self .entry)) cell byte ⌝ }
+        ensures below { λ _. ⌜ cellsBelow (M·Memory .cells) (now (self .exit)) ≡ belowWritten (M·Memory .cells) (now (self .entry)) cell byte ⌝ }
         ensures first { λ _. ⌜ now (self .exit) .first ≡ now (self .entry) .first ⌝ }
         ensures count { λ _. ⌜ now (self .exit) .count ≡ now (self .entry) .count ⌝ }
     {
-        if cell < self.count() {
-            self.below.write(self.first + cell, byte)
-        } else {
-            Err(out_of_range(cell))
+        if cell >= self.count() {
+            return Err(out_of_range(cell));
         }
+        self.below.write(self.first + cell, byte)
     }
 }

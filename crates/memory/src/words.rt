@@ -14,7 +14,7 @@ pub struct WordMemory<'a> {
 }
 
 impl<'a> WordMemory<'a> {
-    /// The words as they stand hold the cells.
+    /// The cells are the halves of the words as they stand, and what is written to a cell stands in the slice.
     pub fn new(words: &'a mut [u16]) -> WordMemory<'a>
         ensures holds { λ r. ⌜ r .words .now ≡ now (words .entry) ⌝ }
         ensures lender { λ r. ⌜ name (r .words) ≡ name (words .entry) ⌝ }
@@ -60,16 +60,15 @@ pub impl<'a> Memory for WordMemory<'a> as WordMemoryMemory {
         ensures lender { λ _. ⌜ name (now (self .exit) .words) ≡ name (now (self .entry) .words) ⌝ }
     {
         let place = cell / 2;
-        if place < self.words.len() {
-            let word = self.words[place];
-            if cell % 2 == 0 {
-                self.words[place] = word / 256 * 256 + u16::from(byte);
-            } else {
-                self.words[place] = word % 256 + 256 * u16::from(byte);
-            }
-            Ok(())
-        } else {
-            Err(out_of_range(cell))
+        if place >= self.words.len() {
+            return Err(out_of_range(cell));
         }
+        let word = self.words[place];
+        if cell % 2 == 0 {
+            self.words[place] = word / 256 * 256 + u16::from(byte);
+        } else {
+            self.words[place] = word % 256 + 256 * u16::from(byte);
+        }
+        Ok(())
     }
 }

@@ -1,0 +1,4 @@
+pub mod Bitwise
+pub mod Stepped
+pub mod Tables
+pub mod Pasted
