@@ -4,7 +4,7 @@ use fault::Fault;
 use fault::Refusal;
 
 /// The refusal of a cell that the memory does not have.
-pub fn out_of_range(cell: usize) -> Fault
+pub(crate) fn out_of_range(cell: usize) -> Fault
     ensures { λ r. ⌜ r ≡ outOfRange cell ⌝ }
 {
     Fault {

@@ -46,7 +46,8 @@ impl Functions {
         self.on[first..first + 8].copy_from_slice(&eight_bits(bits));
     }
 
-    fn put_light(&mut self, bits: u8)
+    /// FL as bit 4 has it.
+    pub fn put_light(&mut self, bits: u8)
         ensures { λ _. ⌜ now (self .exit) .on ≡ lit (now (self .entry) .on) bits ⌝ }
     {
         self.on[0] = has_bit(bits, 4);

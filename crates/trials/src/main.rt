@@ -2,6 +2,8 @@
 
 #[cfg(test)]
 mod blocks;
+#[cfg(test)]
+mod memories;
 mod refusals;
 mod rows;
 #[cfg(test)]

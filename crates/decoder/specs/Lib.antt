@@ -1,0 +1,5 @@
+pub mod Accesses
+pub mod Hearing
+pub mod Replies
+pub mod Mobiles
+pub mod Accessories
