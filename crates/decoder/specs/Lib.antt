@@ -3,3 +3,4 @@ pub mod Hearing
 pub mod Replies
 pub mod Mobiles
 pub mod Accessories
+pub mod Alone
