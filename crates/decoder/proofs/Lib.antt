@@ -1,0 +1,3 @@
+pub mod Same
+pub mod Persisted
+pub mod Lawfuls

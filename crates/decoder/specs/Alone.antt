@@ -6,6 +6,7 @@ use lib.ListN.{getD, set}
 use Rattle.std.specs.declared.option.Option.{Option}
 use Rattle.std.specs.declared.option.Option.the-variants.{Some, None}
 use Rattle.std.specs.declared.result.Result.the-variants.{Ok, Err}
+use Rattle.packet.specs.declared.cv.CvNumber.{CvNumber}
 use Rattle.packet.specs.declared.target.Target.{Target}
 use Rattle.packet.specs.declared.instruction.Instruction.{Instruction}
 use Rattle.packet.specs.declared.packet.Packet.{Packet}
@@ -120,8 +121,8 @@ pub data Event : Type 0 where
   heard : List ℕ → Event
   -- the power comes up
   powered : Event
-  -- the variable of a number is set to a byte
-  setting : ℕ → ℕ → Event
+  -- a variable is set to a byte
+  setting : CvNumber → ℕ → Event
 
 module _ {X : Type 0} (m : Rules X) where
   -- the role in which a packet is heard, and what it asks; none where it is refused or not heard
@@ -140,7 +141,7 @@ module _ {X : Type 0} (m : Rules X) where
   abbrev pub live : Own X → Event → Own X
   live o (heard bs) = obeyed o bs (hearing o (packetRead bs))
   live o powered = own (m .starts (o .rec)) (o .vars)
-  live o (setting n x) = own (m .unwaits (o .rec)) (set (o .vars) (n - 1) x)
+  live o (setting cv x) = own (m .unwaits (o .rec)) (set (o .vars) (cv .number - 1) x)
 
   abbrev pub life : Own X → List Event → Own X
   life o [] = o

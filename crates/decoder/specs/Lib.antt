@@ -4,3 +4,5 @@ pub mod Replies
 pub mod Mobiles
 pub mod Accessories
 pub mod Alone
+pub mod Persistence
+pub mod Examples
