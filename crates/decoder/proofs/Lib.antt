@@ -1,3 +1,4 @@
 pub mod Same
 pub mod Persisted
 pub mod Lawfuls
+pub mod Tracks

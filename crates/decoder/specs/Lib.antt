@@ -6,3 +6,4 @@ pub mod Accessories
 pub mod Alone
 pub mod Persistence
 pub mod Examples
+pub mod Laws

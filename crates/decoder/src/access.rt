@@ -1,43 +1,44 @@
 ghost use mathlib.Core.Path.{_≡_};
-ghost use Rattle.decoder.specs.Accesses.{accessOf, agrees as agreesOf, result as resultOf, matches as matchesOf, barred as barredOf, isWrite, writesIn, waitsAfter, accessActs};
+ghost use Rattle.decoder.specs.Accesses.{verifying as verifyingOf, writing as writingOf, accessOf, agrees as agreesOf, result as resultOf, matches as matchesOf, barred as barredOf, isWrite, writesIn, waitsAfter, accessActs};
 use crate::effect::Access;
 use crate::effect::Change;
 use crate::role::Role;
+use packet::CvNumber;
 use packet::Instruction;
 use state::WaitingWrite;
 use state::WaitingWriteSame;
 use state::has_bit;
 use state::with_bit;
 
+fn verifying(cv: CvNumber, change: Change) -> Option<Access>
+    ensures { λ r. ⌜ r ≡ verifyingOf cv change ⌝ }
+{
+    Some(Access {
+        cv,
+        writes: false,
+        change,
+    })
+}
+
+fn writing(cv: CvNumber, change: Change) -> Option<Access>
+    ensures { λ r. ⌜ r ≡ writingOf cv change ⌝ }
+{
+    Some(Access {
+        cv,
+        writes: true,
+        change,
+    })
+}
+
 /// The instruction as one in the long form, if it is one.
 pub fn access_of(instruction: Instruction) -> Option<Access>
     ensures { λ r. ⌜ r ≡ accessOf instruction ⌝ }
 {
     match instruction {
-        Instruction::VerifyByte { cv, value } => Some(Access {
-            cv,
-            writes: false,
-            change: Change::Byte(value),
-        }),
-        Instruction::WriteByte { cv, value } => Some(Access {
-            cv,
-            writes: true,
-            change: Change::Byte(value),
-        }),
-        Instruction::VerifyBit { cv, bit, value } => {
-            Some(Access {
-                cv,
-                writes: false,
-                change: Change::Bit { bit, on: value },
-            })
-        }
-        Instruction::WriteBit { cv, bit, value } => {
-            Some(Access {
-                cv,
-                writes: true,
-                change: Change::Bit { bit, on: value },
-            })
-        }
+        Instruction::VerifyByte { cv, value } => verifying(cv, Change::Byte(value)),
+        Instruction::WriteByte { cv, value } => writing(cv, Change::Byte(value)),
+        Instruction::VerifyBit { cv, bit, value } => verifying(cv, Change::Bit { bit, on: value }),
+        Instruction::WriteBit { cv, bit, value } => writing(cv, Change::Bit { bit, on: value }),
         _ => None,
     }
 }

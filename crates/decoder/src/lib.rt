@@ -17,6 +17,7 @@ pub use crate::effect::Change;
 pub use crate::effect::Effect;
 pub use crate::hearing::own_address;
 pub use crate::laws::examples_hold;
+pub use crate::laws::rules_keep;
 pub use crate::laws::variables_persist;
 pub use crate::records::Basic;
 pub use crate::records::Extended;

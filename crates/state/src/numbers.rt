@@ -47,9 +47,12 @@ impl BinaryStates {
     pub fn get(&self, number: u16) -> Option<bool>
         ensures { λ r. ⌜ r ≡ stateAt (now (self .entry) .bits) number ⌝ }
     {
-        if number == 0 || number > 2047 {
-            return None;
+        match number {
+            1..=2047 => {
+                let byte = self.bits[usize::from(number / 8)];
+                Some(has_bit(byte, (number % 8) as u8))
+            }
+            _ => None,
         }
-        Some(has_bit(self.bits[usize::from(number / 8)], (number % 8) as u8))
     }
 }
