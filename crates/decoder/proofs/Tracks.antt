@@ -7,7 +7,7 @@ use Prim.Native.Nat.{ℕ, zero, suc, _+_, _-_, _≤_, _<_}
 use native.Mathlib.Omega.{arith}
 use lib.Dec.{eqb, leb, ltb}
 use lib.ListN.{length, getD, set, take, drop, length-take}
-use Rattle.std.proofs.shelf.Lists.{getD-append-left, getD-append-right, getD-take, getD-drop, getD-set-other, length-take-le}
+use Rattle.std.proofs.shelf.Lists.{getD-append-left, getD-append-right, getD-take, getD-drop, getD-set-same, getD-set-other, length-take-le, length-append}
 use Rattle.std.proofs.shelf.Tests.{true≢false, false≢true, cases-lt, cases-bool}
 use Rattle.std.proofs.shelf.Ways.{tells}
 use Rattle.std.specs.declared.option.Option.{Option}
@@ -37,7 +37,7 @@ use Rattle.state.specs.declared.volatile.MobileState.{MobileState}
 use Rattle.state.specs.declared.scale.Scale.the-variants.{Fourteen, TwentyEight}
 use Rattle.decoder.specs.Alone.{Own, Rules, Event, applied, hearing, obeyed, live, mobileRules, basicRules, extendedRules}
 use Rattle.decoder.specs.Alone.Event.{heard}
-use Rattle.decoder.specs.Laws.{KindLaws, Reply-needs-all, Reset-is-power-up, OnlySpeed, By-consist-only-speed, Steps-in-scale, Groups-switch-their-own, lowestOf, widthOf, isInGroup, Laws}
+use Rattle.decoder.specs.Laws.{KindLaws, Reply-needs-all, Reset-is-power-up, OnlySpeed, By-consist-only-speed, Steps-in-scale, Groups-switch-their-own, lowestOf, widthOf, isInGroup, isGroupOne, Light-by-group-one, touchesFunctions, Others-keep-functions, Laws}
 
 module _ {X : Type 0} (m : Rules X) where
   unheard : (o : Own X) (bs : List ℕ) → hearing m o (packetRead bs) ≡ None → live m o (heard bs) ≡ o
@@ -261,6 +261,52 @@ groups-switch fs F45ToF52 bits k light l h = part-at fs (eightBits bits) 45 8 bi
 groups-switch fs F53ToF60 bits k light l h = part-at fs (eightBits bits) 53 8 bits k refl (eight-at bits) (omega arith)
 groups-switch fs F61ToF68 bits k light l h = part-at fs (eightBits bits) 61 8 bits k refl (eight-at bits) (omega arith)
 
+light-by-one : Light-by-group-one
+light-by-one fs F0ToF4 bits light l = go light
+  where
+    part : getD (pasted fs 1 (fourBits bits)) 0 false ≡ getD fs 0 false
+    part = part-at fs (fourBits bits) 1 4 bits 0 refl (four-at bits) (omega arith)
+    size : 0 < length (pasted fs 1 (fourBits bits))
+    size = omega (arith, length-append (take 1 fs) (fourBits bits ++ drop 5 fs), length-append (fourBits bits) (drop 5 fs))
+    go : (c : Bool) → getD (switched fs F0ToF4 bits c) 0 false ≡ cond (true && c) (bitOf bits 4) (getD fs 0 false)
+    go true = getD-set-same (pasted fs 1 (fourBits bits)) 0 (bitOf bits 4) false size
+    go false = part
+light-by-one fs F5ToF8 bits light l = part-at fs (fourBits bits) 5 4 bits 0 refl (four-at bits) (omega arith)
+light-by-one fs F9ToF12 bits light l = part-at fs (fourBits bits) 9 4 bits 0 refl (four-at bits) (omega arith)
+light-by-one fs F13ToF20 bits light l = part-at fs (eightBits bits) 13 8 bits 0 refl (eight-at bits) (omega arith)
+light-by-one fs F21ToF28 bits light l = part-at fs (eightBits bits) 21 8 bits 0 refl (eight-at bits) (omega arith)
+light-by-one fs F29ToF36 bits light l = part-at fs (eightBits bits) 29 8 bits 0 refl (eight-at bits) (omega arith)
+light-by-one fs F37ToF44 bits light l = part-at fs (eightBits bits) 37 8 bits 0 refl (eight-at bits) (omega arith)
+light-by-one fs F45ToF52 bits light l = part-at fs (eightBits bits) 45 8 bits 0 refl (eight-at bits) (omega arith)
+light-by-one fs F53ToF60 bits light l = part-at fs (eightBits bits) 53 8 bits 0 refl (eight-at bits) (omega arith)
+light-by-one fs F61ToF68 bits light l = part-at fs (eightBits bits) 61 8 bits 0 refl (eight-at bits) (omega arith)
+
+-- whether or not it acts
+either : (c : Bool) (s u : MobileState) → u .functions ≡ s .functions → cond c u s .functions ≡ s .functions
+either true s u e = e
+either false s u e = refl
+
+others-keep : Others-keep-functions
+others-keep o r bs NoOperation e = either _ (o .rec .state) _ refl
+others-keep o r bs Reset e = absurd (true≢false e)
+others-keep o r bs HardReset e = absurd (true≢false e)
+others-keep o r bs (AdvancedAddressing on) e = either _ (o .rec .state) _ refl
+others-keep o r bs AcknowledgmentRequest e = either _ (o .rec .state) _ refl
+others-keep o r bs (Consist reversed address) e = either _ (o .rec .state) _ refl
+others-keep o r bs (Speed forward code) e = absurd (true≢false e)
+others-keep o r bs (Speed126 forward code) e = either _ (o .rec .state) _ refl
+others-keep o r bs (Functions group bits) e = absurd (true≢false e)
+others-keep o r bs (BinaryStateShort on number) e = either _ (o .rec .state) _ refl
+others-keep o r bs (BinaryStateLong on number) e = either _ (o .rec .state) _ refl
+others-keep o r bs (AccelerationAdjustment value) e = either _ (o .rec .state) _ refl
+others-keep o r bs (DecelerationAdjustment value) e = either _ (o .rec .state) _ refl
+others-keep o r bs (VerifyByte cv value) e = either _ (o .rec .state) _ refl
+others-keep o r bs (WriteByte cv value) e = either _ (o .rec .state) _ refl
+others-keep o r bs (VerifyBit cv bit value) e = either _ (o .rec .state) _ refl
+others-keep o r bs (WriteBit cv bit value) e = either _ (o .rec .state) _ refl
+others-keep o r bs (Output number on) e = either _ (o .rec .state) _ refl
+others-keep o r bs (Aspect number) e = either _ (o .rec .state) _ refl
+
 pub laws : Laws
 laws = record {
   mobiles = record { unheard-keeps = unheard mobileRules; one-role = one mobileRules; first-waits = mobile-first };
@@ -271,4 +317,6 @@ laws = record {
   consists = only-speed;
   scales = λ s. s .within;
   groups = groups-switch;
+  light = light-by-one;
+  functions = others-keep;
 }

@@ -11,7 +11,7 @@ use Rattle.std.specs.declared.option.Option.the-variants.{Some, None}
 use Rattle.packet.specs.declared.instruction.FunctionGroup.{FunctionGroup}
 use Rattle.packet.specs.declared.instruction.FunctionGroup.the-variants.{F0ToF4, F5ToF8, F9ToF12, F13ToF20, F21ToF28, F29ToF36, F37ToF44, F45ToF52, F53ToF60, F61ToF68}
 use Rattle.packet.specs.declared.instruction.Instruction.{Instruction}
-use Rattle.packet.specs.declared.instruction.Instruction.the-variants.{Reset}
+use Rattle.packet.specs.declared.instruction.Instruction.the-variants.{NoOperation, Reset, HardReset, AdvancedAddressing, AcknowledgmentRequest, Consist, Speed, Speed126, Functions, BinaryStateShort, BinaryStateLong, AccelerationAdjustment, DecelerationAdjustment, VerifyByte, WriteByte, VerifyBit, WriteBit, Output, Aspect}
 use Rattle.packet.specs.declared.target.Target.{Target}
 use Rattle.format.specs.Reading.{packetRead}
 use Rattle.state.specs.declared.step.Step.{Step}
@@ -103,6 +103,53 @@ Groups-switch-their-own =
     → 1 ≤ k
     → getD (switched fs g bits light) k false ≡ cond (isInGroup g k) (bitOf bits (k - lowestOf g)) (getD fs k false)
 
+-- FL is switched by group one alone, and only where `light` says so
+abbrev pub isGroupOne : FunctionGroup → Bool
+isGroupOne F0ToF4 = true
+isGroupOne F5ToF8 = false
+isGroupOne F9ToF12 = false
+isGroupOne F13ToF20 = false
+isGroupOne F21ToF28 = false
+isGroupOne F29ToF36 = false
+isGroupOne F37ToF44 = false
+isGroupOne F45ToF52 = false
+isGroupOne F53ToF60 = false
+isGroupOne F61ToF68 = false
+
+abbrev pub Light-by-group-one : Type 0
+Light-by-group-one =
+    (fs : List Bool) (g : FunctionGroup) (bits : ℕ) (light : Bool)
+    → length fs ≡ 69
+    → getD (switched fs g bits light) 0 false ≡ cond (isGroupOne g && light) (bitOf bits 4) (getD fs 0 false)
+
+-- the instructions that may change functions: a group, a reset, and speed in 14 steps, which changes FL
+abbrev pub touchesFunctions : Instruction → Bool
+touchesFunctions NoOperation = false
+touchesFunctions Reset = true
+touchesFunctions HardReset = true
+touchesFunctions (AdvancedAddressing on) = false
+touchesFunctions AcknowledgmentRequest = false
+touchesFunctions (Consist reversed address) = false
+touchesFunctions (Speed forward code) = true
+touchesFunctions (Speed126 forward code) = false
+touchesFunctions (Functions group bits) = true
+touchesFunctions (BinaryStateShort on number) = false
+touchesFunctions (BinaryStateLong on number) = false
+touchesFunctions (AccelerationAdjustment value) = false
+touchesFunctions (DecelerationAdjustment value) = false
+touchesFunctions (VerifyByte cv value) = false
+touchesFunctions (WriteByte cv value) = false
+touchesFunctions (VerifyBit cv bit value) = false
+touchesFunctions (WriteBit cv bit value) = false
+touchesFunctions (Output number on) = false
+touchesFunctions (Aspect number) = false
+
+abbrev pub Others-keep-functions : Type 0
+Others-keep-functions =
+    (o : Own Mobile) (r : Role) (bs : List ℕ) (i : Instruction)
+    → touchesFunctions i ≡ false
+    → mobileRules .obeys o r bs i .rec .state .functions ≡ o .rec .state .functions
+
 pub record Laws : Type 0 where
   pub mobiles : KindLaws mobileRules
   pub basics : KindLaws basicRules
@@ -112,3 +159,5 @@ pub record Laws : Type 0 where
   pub consists : By-consist-only-speed
   pub scales : Steps-in-scale
   pub groups : Groups-switch-their-own
+  pub light : Light-by-group-one
+  pub functions : Others-keep-functions
