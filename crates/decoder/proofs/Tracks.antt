@@ -266,8 +266,10 @@ light-by-one fs F0ToF4 bits light l = go light
   where
     part : getD (pasted fs 1 (fourBits bits)) 0 false ≡ getD fs 0 false
     part = part-at fs (fourBits bits) 1 4 bits 0 refl (four-at bits) (omega arith)
+
     size : 0 < length (pasted fs 1 (fourBits bits))
     size = omega (arith, length-append (take 1 fs) (fourBits bits ++ drop 5 fs), length-append (fourBits bits) (drop 5 fs))
+
     go : (c : Bool) → getD (switched fs F0ToF4 bits c) 0 false ≡ cond (true && c) (bitOf bits 4) (getD fs 0 false)
     go true = getD-set-same (pasted fs 1 (fourBits bits)) 0 (bitOf bits 4) false size
     go false = part

@@ -25,5 +25,8 @@ pub use crate::volatile::BasicState;
 pub use crate::volatile::ExtendedState;
 pub use crate::volatile::MobileState;
 pub use crate::volatile::Reply;
+pub use crate::volatile::ReplyDebug;
+pub use crate::volatile::ReplyEq;
+pub use crate::volatile::ReplyPartialEq;
 pub use crate::waiting::WaitingWrite;
 pub use crate::waiting::WaitingWriteSame;

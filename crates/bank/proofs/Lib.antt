@@ -1,0 +1,3 @@
+pub mod Windowed
+pub mod Counts
+pub mod Turns

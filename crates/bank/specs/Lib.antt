@@ -1,0 +1,4 @@
+pub mod Kinds
+pub mod Windows
+pub mod Hearers
+pub mod Banks
