@@ -17,7 +17,7 @@ use Rattle.bank.specs.Windows.{window, Wrote}
 use Rattle.bank.specs.Hearers.{isHeard}
 use Rattle.bank.specs.Banks.{ownAt, Turned, Kept, ChangedAt, ChangedBelow, passes, hearsAt}
 use Rattle.bank.proofs.Windowed.{cell-of}
-use Rattle.bank.proofs.Counts.{count-hit, count-miss, count-less, count-apart, count-more, parted, passes-at}
+use Rattle.bank.proofs.Counts.{count-hit, count-miss, count-less, count-apart, parted, passes-at}
 
 pub start-kept : {h : ℕ → Bool} {cells : List ℕ} → Kept h 0 cells cells
 start-kept = record { size = refl; there = λ t n. refl }

@@ -1,13 +1,13 @@
 -- One cell of a window, read and written: the only place where the layout of the cells counts.
-use mathlib.Core.Path.{_≡_, refl, sym, ap, _∙_}
+use mathlib.Core.Path.{_≡_, refl, ap, _∙_}
 use mathlib.Core.Logic.{_≢_, ⊎-elim}
 use mathlib.Core.List.{List}
-use Prim.Native.Nat.{ℕ, _+_, _-_, _*_, _/_, _%_, _<_, _≤_}
+use Prim.Native.Nat.{ℕ, _+_, _-_, _*_, _/_, _%_, _<_}
 use native.Mathlib.Omega.{arith}
-use lib.ListN.{length, getD, set, take, drop, length-set}
+use lib.ListN.{getD, set, take, drop, length-set}
 use lib.Seq.{drop-set-add, drop-set-lt, take-set-lt, take-set-le, getD-take, getD-drop}
 use Rattle.std.proofs.shelf.Tests.{cases-order}
-use Rattle.bank.specs.Windows.{window, HasWindow, Wrote}
+use Rattle.bank.specs.Windows.{window, Wrote}
 
 module _ (cells : List ℕ) (s v : ℕ) (low : v < 1024) where
   pub getD-window : getD (window cells s) v 0 ≡ getD cells (1024 * s + v) 0
@@ -48,10 +48,6 @@ wrote-then f a b = record {
   here = b .here ∙ ap f (a .here);
   there = λ t ne. b .there t ne ∙ a .there t ne;
 }
-
--- the window is still there
-pub has-still : {cells cells′ : List ℕ} {s : ℕ} {w : List ℕ} → Wrote cells cells′ s w → HasWindow s cells → HasWindow s cells′
-has-still a h = let e = a .size in record { room = omega arith; small = omega arith }
 
 -- a cell by its window
 pub cell-of : (cells : List ℕ) (k : ℕ) → getD (window cells (k / 1024)) (k % 1024) 0 ≡ getD cells k 0

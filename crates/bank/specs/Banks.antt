@@ -50,6 +50,7 @@ hasRecords kinds kind bank = leb (countOf kinds kind) (length bank)
 abbrev pub isEnough : {X : Type 0} → List Kind → Kind → List X → List ℕ → Bool
 isEnough kinds kind bank cells = hasRecords kinds kind bank && leb (1024 * length kinds) (length cells)
 
+-- the refusal of a bank or a memory that is too short
 abbrev pub lentTooShort : Fault
 lentTooShort = record { refusal = LentTooShort; offset = 0 }
 

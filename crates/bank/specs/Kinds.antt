@@ -9,6 +9,7 @@ use Rattle.std.specs.declared.option.Option.the-variants.{Some, None}
 use Rattle.bank.specs.declared.kind.Kind.{Kind}
 use Rattle.bank.specs.declared.kind.Kind.the-variants.{Mobile, Basic, Extended}
 
+-- whether two kinds are one
 abbrev pub sameKind : Kind → Kind → Bool
 sameKind Mobile Mobile = true
 sameKind Mobile Basic = false

@@ -1,6 +1,6 @@
 use borrow.Author.Needs.{needs}
 use lib.ListN.{set}
-use Rattle.bank.proofs.Windowed.{wrote-then, has-still}
+use Rattle.bank.proofs.Windowed.{wrote-then}
 use Rattle.bank.proofs.applying.reset.Needs as need
 
 pub returns : need.returns

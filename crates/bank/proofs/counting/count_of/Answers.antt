@@ -1,6 +1,5 @@
 use mathlib.Core.Path.{sym, ap, _∙_}
 use borrow.Author.Needs.{needs}
-use native.Mathlib.Omega.{arith}
 use Prim.Native.Nat.{_+_}
 use Rattle.bank.specs.Kinds.{isKind}
 use Rattle.bank.proofs.Counts.{count-none, count-hit, count-miss, count-most}
