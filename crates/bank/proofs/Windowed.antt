@@ -5,9 +5,9 @@ use Rattle.std.proofs.lemmas.Bool.{cases_order}
 use Rattle.bank.specs.Windows.{window, Wrote}
 
 module _ (cells : List ℕ) (s v : ℕ) (low : v < 1024) where
-  pub get_d_window : get_or (window cells s) v 0 ≡ get_or cells (1024 * s + v) 0
+  pub get_or-window : get_or (window cells s) v 0 ≡ get_or cells (1024 * s + v) 0
   unfolding window
-  get_d_window = get_or-take 1024 (drop (1024 * s) cells) v 0 low ∙ get_or-drop (1024 * s) cells v 0
+  get_or-window = get_or-take 1024 (drop (1024 * s) cells) v 0 low ∙ get_or-drop (1024 * s) cells v 0
 
   there : (b t : ℕ) → t ≢ s → window (set cells (1024 * s + v) b) t ≡ window cells t
   unfolding window
@@ -50,4 +50,4 @@ wrote_then f a b = record {
 
 -- a cell by its window
 pub cell_of : (cells : List ℕ) (k : ℕ) → get_or (window cells (k / 1024)) (k % 1024) 0 ≡ get_or cells k 0
-cell_of cells k = let e : 1024 * (k / 1024) + k % 1024 ≡ k = omega arith in get_d_window cells (k / 1024) (k % 1024) (omega arith) ∙ ap (λ k. get_or cells k 0) e
+cell_of cells k = let e : 1024 * (k / 1024) + k % 1024 ≡ k = omega arith in get_or-window cells (k / 1024) (k % 1024) (omega arith) ∙ ap (λ k. get_or cells k 0) e

@@ -10,13 +10,13 @@ use Rattle.bank.specs.Windows.{window, has_window}
 use Rattle.bank.specs.Hearers.{is_heard}
 
 -- the decoder in the slot s: its record in the bank, and its window
-abbrev pub field_own : {X : Type 0} → (ℕ → Bool) → X → List X → List ℕ → ℕ → Own X
-field_own h x bank cells s = own (slice_index_or bank (count_below h s) x) (window cells s)
+abbrev pub own_at : {X : Type 0} → (ℕ → Bool) → X → List X → List ℕ → ℕ → Own X
+own_at h x bank cells s = own (slice_index_or bank (count_below h s) x) (window cells s)
 
 -- f was done to each decoder in a slot below n that passes h; the records beyond those stay
 pub record Turned {X : Type 0} (h : ℕ → Bool) (n : ℕ) (f : ℕ → Own X → Own X) (bank : List X) (cells : List ℕ) (bank' : List X) (cells' : List ℕ) : Type 0 where
   pub len : length bank' ≡ length bank
-  pub here : (x : X) (s : ℕ) → s < n → h s ≡ true → field_own h x bank' cells' s ≡ f s (field_own h x bank cells s)
+  pub here : (x : X) (s : ℕ) → s < n → h s ≡ true → own_at h x bank' cells' s ≡ f s (own_at h x bank cells s)
   pub beyond : (x : X) (j : ℕ) → count_below h n ≤ j → slice_index_or bank' j x ≡ slice_index_or bank j x
 
 -- no window changed but those of the slots below n that pass h; so the cells beyond the slots stay too

@@ -24,8 +24,8 @@ pub fn deliver<T: Listener, M: Memory>(
     target: Target,
     instruction: Instruction,
 ) -> Result<usize, Fault>
-    ensures answer { result ≡ unless_short (is_enough kinds.now kind bank.old (M.Memory.cells memory.old)) (count_below (hears_at rules target (is_kind kinds.now kind) bank.old (M.Memory.cells memory.old)) (length kinds.now)) }
-    ensures turned { is_enough kinds.now kind bank.old (M.Memory.cells memory.old) ≡ true → Turned (is_kind kinds.now kind) (length kinds.now) (λ _. after_hearing rules packet.now target instruction) bank.old (M.Memory.cells memory.old) bank.new (M.Memory.cells memory.new) }
+    ensures answer { result ≡ unless_short (is_enough kinds.now kind bank.old (M.Memory.cells memory.old)) (count_below (hears_at T.Listener.rules target (is_kind kinds.now kind) bank.old (M.Memory.cells memory.old)) (length kinds.now)) }
+    ensures turned { is_enough kinds.now kind bank.old (M.Memory.cells memory.old) ≡ true → Turned (is_kind kinds.now kind) (length kinds.now) (λ _. after_hearing T.Listener.rules packet.now target instruction) bank.old (M.Memory.cells memory.old) bank.new (M.Memory.cells memory.new) }
     ensures kept { is_enough kinds.now kind bank.old (M.Memory.cells memory.old) ≡ true → Kept (is_kind kinds.now kind) (length kinds.now) (M.Memory.cells memory.old) (M.Memory.cells memory.new) }
     ensures refused { is_enough kinds.now kind bank.old (M.Memory.cells memory.old) ≡ false → (bank.new ≡ bank.old) × (M.Memory.cells memory.new ≡ M.Memory.cells memory.old) }
     ensures beyond { (k : ℕ) → 1024 * length kinds.now ≤ k → slice_index (M.Memory.cells memory.new) k ≡ slice_index (M.Memory.cells memory.old) k }
@@ -49,8 +49,8 @@ fn deliver_all<T: Listener, M: Memory>(
     requires records { count_of kinds.now kind ≤ length bank.old }
     requires windows { 1024 * length kinds.now ≤ length (M.Memory.cells memory.old) }
     requires small { length (M.Memory.cells memory.old) < 2 ^ 64 }
-    ensures answer { result ≡ count_below (hears_at rules target (is_kind kinds.now kind) bank.old (M.Memory.cells memory.old)) (length kinds.now) }
-    ensures turned { Turned (is_kind kinds.now kind) (length kinds.now) (λ _. after_hearing rules packet.now target instruction) bank.old (M.Memory.cells memory.old) bank.new (M.Memory.cells memory.new) }
+    ensures answer { result ≡ count_below (hears_at T.Listener.rules target (is_kind kinds.now kind) bank.old (M.Memory.cells memory.old)) (length kinds.now) }
+    ensures turned { Turned (is_kind kinds.now kind) (length kinds.now) (λ _. after_hearing T.Listener.rules packet.now target instruction) bank.old (M.Memory.cells memory.old) bank.new (M.Memory.cells memory.new) }
     ensures kept { Kept (is_kind kinds.now kind) (length kinds.now) (M.Memory.cells memory.old) (M.Memory.cells memory.new) }
     ensures outside { M.Memory.outside memory.new ≡ M.Memory.outside memory.old }
 {

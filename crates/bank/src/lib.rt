@@ -2,6 +2,8 @@
 //!
 //! These are the inner calls of a board. The decoder in slot `s` owns the cells `1024 * s` to `1024 * s + 1023`.
 
+#![tactic(auto)]
+
 mod applying;
 mod basic;
 mod cells;

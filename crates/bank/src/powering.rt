@@ -15,7 +15,7 @@ use fault::Fault;
 /// the slots have decoders of the kind.
 pub fn power_up<T: Listener>(bank: &mut [T], kind: Kind, kinds: &[Kind]) -> Result<(), Fault>
     ensures answer { result ≡ unless_short (has_records kinds.now kind bank.old) tt }
-    ensures turned { has_records kinds.now kind bank.old ≡ true → (cells : List ℕ) → Turned (is_kind kinds.now kind) (length kinds.now) (λ _ o. live rules o powered) bank.old cells bank.new cells }
+    ensures turned { has_records kinds.now kind bank.old ≡ true → (cells : List ℕ) → Turned (is_kind kinds.now kind) (length kinds.now) (λ _ o. live T.Listener.rules o powered) bank.old cells bank.new cells }
     ensures refused { has_records kinds.now kind bank.old ≡ false → bank.new ≡ bank.old }
 {
     let count = count_of(kind, kinds);
@@ -29,7 +29,7 @@ pub fn power_up<T: Listener>(bank: &mut [T], kind: Kind, kinds: &[Kind]) -> Resu
 /// The power comes up for the first records.
 fn power_up_first<T: Listener>(bank: &mut [T], count: usize)
     requires { count ≤ length bank.old }
-    ensures { ChangedBelow count rules.starts bank.old bank.new }
+    ensures { ChangedBelow count T.Listener.rules.starts bank.old bank.new }
 {
     for number in 0..count {
         bank[number].power_up();

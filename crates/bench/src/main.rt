@@ -1,5 +1,7 @@
 //! Fits a mobile, a basic and an extended decoder, takes standard input as one block, and prints what they hold then.
 
+#![tactic(auto)]
+
 mod lines;
 mod trial;
 

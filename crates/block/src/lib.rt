@@ -1,5 +1,7 @@
 //! Blocks of records: which packets and power-ups a block carries, where they stand in it, and where it is at fault.
 
+#![tactic(auto)]
+
 mod limit;
 mod packets;
 pub mod records;

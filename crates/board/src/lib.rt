@@ -2,6 +2,8 @@
 //!
 //! What is fitted is all that a board holds. The banks of records and the memory are lent with each call.
 
+#![tactic(auto)]
+
 pub mod boards;
 mod fitting;
 mod performing;

@@ -1,5 +1,7 @@
 //! What decoders do at the packets that they hear: the rules, without any memory.
 
+#![tactic(auto)]
+
 mod access;
 mod accessory;
 pub mod effect;

@@ -1,5 +1,7 @@
 //! Tries decoders on packets, over memories of bytes and of words.
 
+#![tactic(auto)]
+
 #[cfg(test)]
 mod accessories;
 #[cfg(test)]

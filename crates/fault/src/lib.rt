@@ -1,5 +1,7 @@
 //! Why a call was refused: every cause with its number, its layer and its name, and where it stands.
 
+#![tactic(auto)]
+
 mod fault;
 mod naming;
 pub mod refusal;

@@ -1,13 +1,13 @@
 -- What is written reads as itself. Assumes nothing.
-use Rattle.std.proofs.Common.{◌≡◌, ℕ, ◌+◌, ◌-◌, ◌*◌, ◌/◌, ◌%◌, ◌<◌, ◌≤◌, Bool, true, false, cond, eqb, ltb, leb, List, [], ◌∷◌, ◌++◌, length, Ok, Err, sym, refl, ap, ◌∙◌, arith}
+use Rattle.std.proofs.Common.{◌≡◌, ℕ, ◌+◌, ◌-◌, ◌*◌, ◌/◌, ◌%◌, ◌<◌, true, false, List, [], ◌∷◌, Ok, arith}
 use Rattle.std.proofs.lemmas.Bool.Decides.{nat_tests}
 use Rattle.packet.specs.declared.cv.CvNumber.{CvNumber}
 use Rattle.packet.specs.declared.instruction.FunctionGroup.TheVariants.{F0ToF4, F5ToF8, F9ToF12, F13ToF20, F21ToF28, F29ToF36, F37ToF44, F45ToF52, F53ToF60, F61ToF68}
 use Rattle.packet.specs.declared.instruction.Instruction.{Instruction}
 use Rattle.packet.specs.declared.instruction.Instruction.TheVariants.{NoOperation, Reset, HardReset, AdvancedAddressing, AcknowledgmentRequest, Consist, Speed, Speed126, Functions, BinaryStateShort, BinaryStateLong, AccelerationAdjustment, DecelerationAdjustment, VerifyByte, WriteByte, VerifyBit, WriteBit, Output, Aspect}
-use Rattle.packet.specs.Wires.{cv_at, wire_at, wire_of, wire_bytes, number_of}
-use Rattle.format.specs.Reading.{Asked, by_first, mobile, cv_access, long_form, bit_operation, bit3, bit7, basic, extended}
-use Rattle.format.specs.Writing.{Coded, below, at_cv, at_bit, flag, form_of, cv_body, mobile_body, basic_body, extended_body, output_bits}
+use Rattle.packet.specs.Wires.{cv_at}
+use Rattle.format.specs.Reading.{mobile, cv_access, basic, extended}
+use Rattle.format.specs.Writing.{form_of, cv_body, mobile_body, basic_body, extended_body, output_bits}
 use Rattle.packet.proofs.Cvs.{cv_is}
 
 -- the variable at the address that it was written by, whatever lies above the two lowest bits

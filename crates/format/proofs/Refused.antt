@@ -1,5 +1,5 @@
 -- Each refusal stands exactly where its cause is the first that stands. Assumes nothing.
-use Rattle.std.proofs.Common.{◌≡◌, ℕ, ◌+◌, ◌-◌, ◌*◌, ◌/◌, ◌%◌, ◌<◌, ◌≤◌, Bool, true, false, cond, not, ◌&&◌, ◌||◌, eqb, ltb, leb, List, [], ◌∷◌, ◌++◌, length, get_or, take, drop, Some, None, Ok, Err, Option, sym, refl, ap, ◌∙◌, ⊎_elim, arith, length-take}
+use Rattle.std.proofs.Common.{◌≡◌, ℕ, ◌+◌, ◌-◌, ◌*◌, ◌<◌, ◌≤◌, true, false, cond, not, ◌&&◌, eqb, ltb, leb, List, [], ◌∷◌, length, drop, Some, None, Ok, Err, Option, sym, refl, ap, ◌∙◌, ⊎_elim, arith, length-take}
 use Rattle.std.proofs.ByRecursion.{All-take}
 use Rattle.packet.specs.Parity.{parity}
 use Rattle.std.proofs.lemmas.Bool.{cases_lt, cases_Bool, cond-true, cond-false, eq-eqb, ne_eqb, lt-ltb, le-ltb}
@@ -10,7 +10,7 @@ use Rattle.fault.specs.declared.refusal.Refusal.TheVariants.{PacketLength, Error
 use Rattle.packet.specs.declared.target.Target.{Target}
 use Rattle.packet.specs.declared.target.Target.TheVariants.{Broadcast, Short, Long, Basic, Extended}
 use Rattle.format.specs.Reading.{Asked, Told, told, by_first, mobile, cv_access, basic, extended, basic_address, extended_address, is_extended_head, idle, long, accessory, addressed, front, packet_read}
-use Rattle.format.specs.Refusing.{Cause, within, byte, first_of, refusal_in, cv_forms, aspect_forms, mobile_forms, size_in, mobile_causes, basic_causes, extended_causes, accessory_causes, address_causes, causes}
+use Rattle.format.specs.Refusing.{Cause, within, byte, first_of, refusal_in, mobile_causes, basic_causes, extended_causes, accessory_causes, address_causes, causes}
 
 abbrev refusal_of : Asked → Option Refusal
 refusal_of (Ok i) = None
@@ -71,8 +71,8 @@ adjustments b (c ∷ []) l m = grind (arith, nat_tests)
 adjustments b (c ∷ d ∷ []) l m = grind (arith, nat_tests)
 adjustments b (c ∷ d ∷ f ∷ bs) l m = grind (arith, nat_tests)
 
-by_first : (b : ℕ) (bs : List ℕ) → b < 256 → Mobile b bs
-by_first b bs h =
+by_first_lem : (b : ℕ) (bs : List ℕ) → b < 256 → Mobile b bs
+by_first_lem b bs h =
     ⊎_elim (control b bs) (λ l.
     ⊎_elim (consist_or_speed b bs l) (λ l.
     ⊎_elim (speed_forms b bs l) (λ l.
@@ -84,7 +84,7 @@ by_first b bs h =
 
 mobile_refused : (b : ℕ) (bs : List ℕ) → b < 256 → refusal_of (mobile (b ∷ bs)) ≡ first_of (mobile_causes (b ∷ bs))
 unfolding mobile
-mobile_refused b bs h = by_first b bs h
+mobile_refused b bs h = by_first_lem b bs h
 
 basic_refused : (head : ℕ) (is : List ℕ) → All (λ x. x < 256) is → refusal_of (basic head is) ≡ first_of (basic_causes head is)
 unfolding cv_access

@@ -1,7 +1,7 @@
 -- Whole packets: an accepted packet is written back to its own bytes. Assumes nothing.
-use Rattle.std.proofs.Common.{◌≡◌, ℕ, ◌+◌, ◌-◌, ◌*◌, ◌/◌, ◌%◌, ◌<◌, ◌≤◌, Bool, true, false, cond, eqb, ltb, leb, List, [], ◌∷◌, ◌++◌, length, get_or, take, drop, Ok, Err, Result, sym, refl, ap, ◌∙◌, ⊎_elim, arith}
-use Rattle.std.proofs.ByRecursion.{All-take, All-drop}
-use Rattle.std.proofs.lemmas.List.{take_more, take_all, take-append-drop}
+use Rattle.std.proofs.Common.{◌≡◌, ℕ, ◌+◌, ◌-◌, ◌*◌, ◌/◌, ◌%◌, ◌<◌, ◌≤◌, true, List, [], ◌∷◌, ◌++◌, length, get_or, take, Ok, Err, sym, refl, ap, ◌∙◌, ⊎_elim, arith}
+use Rattle.std.proofs.ByRecursion.{All-take}
+use Rattle.std.proofs.lemmas.List.{take_more, take_all}
 use Rattle.std.proofs.lemmas.Bool.{cases_lt, cases_Bool}
 use Rattle.std.proofs.lemmas.Bool.Decides.{nat_tests}
 use Rattle.std.specs.List.{AllByRecursion as All}
@@ -13,7 +13,7 @@ use Rattle.packet.specs.declared.packet.Packet.{Packet}
 use Rattle.fault.specs.declared.refusal.Refusal.TheVariants.{AccessoryHead}
 use Rattle.packet.specs.Parity.{parity, sealed}
 use Rattle.format.specs.Reading.{Asked, Told, packet_of, told, mobile, basic, extended, basic_address, extended_address, is_extended_head, long, idle, accessory, addressed, front, packet_read}
-use Rattle.format.specs.Writing.{form_of, mobile_body, basic_body, extended_body, body_of, output_bits, head_of, joined, encoded}
+use Rattle.format.specs.Writing.{form_of, body_of, output_bits, head_of, encoded}
 use Rattle.format.proofs.Forths.{mobile_forth, basic_forth, extended_forth}
 use Rattle.packet.proofs.Parities.{parity_last}
 

@@ -1,6 +1,6 @@
 -- Whole packets: what is written reads as itself. Assumes nothing.
-use Rattle.std.proofs.Common.{◌≡◌, ℕ, ◌+◌, ◌-◌, ◌*◌, ◌/◌, ◌%◌, ◌<◌, ◌≤◌, Bool, true, false, cond, eqb, ltb, leb, List, [], ◌∷◌, ◌++◌, length, get_or, take, drop, Ok, Err, Result, sym, refl, ap, ◌∙◌, arith}
-use Rattle.std.proofs.lemmas.List.{take_at, length-append, take_more, take_all, take-append-drop}
+use Rattle.std.proofs.Common.{◌≡◌, ℕ, ◌+◌, ◌-◌, ◌*◌, ◌/◌, ◌<◌, ◌≤◌, true, false, ltb, List, [], ◌∷◌, ◌++◌, length, Ok, Err, sym, refl, ap, ◌∙◌, arith}
+use Rattle.std.proofs.lemmas.List.{take_at, length-append}
 use Rattle.std.proofs.lemmas.Bool.{cond_both}
 use Rattle.std.proofs.lemmas.Bool.Decides.{nat_tests}
 use Rattle.packet.specs.declared.target.Target.{Target}
@@ -11,7 +11,7 @@ use Rattle.packet.specs.declared.instruction.FunctionGroup.{FunctionGroup}
 use Rattle.packet.specs.declared.instruction.FunctionGroup.TheVariants.{F0ToF4, F5ToF8, F9ToF12, F13ToF20, F21ToF28, F29ToF36, F37ToF44, F45ToF52, F53ToF60, F61ToF68}
 use Rattle.fault.specs.declared.refusal.Refusal.TheVariants.{FieldOutOfRange}
 use Rattle.packet.specs.Parity.{parity, sealed}
-use Rattle.format.specs.Reading.{Told, packet_of, told, mobile, basic, extended, long, accessory, addressed, front, packet_read}
+use Rattle.format.specs.Reading.{packet_of, long, accessory, addressed, front, packet_read}
 use Rattle.format.specs.Writing.{Coded, Form, form_of, idle_body, mobile_body, basic_body, extended_body, body_of, output_bits, head_of, below, function_bytes, joined, encoded}
 use Rattle.format.specs.Writing.Form.{nothing, mobile_only, anyone, output, aspect}
 use Rattle.format.proofs.Backs.{mobile_back, basic_back, extended_back}

@@ -1,6 +1,5 @@
 -- Reading and writing undo each other.
-use Rattle.std.specs.Prelude.{◌≡◌, ℕ, ◌<◌, List, take, Ok, Result}
-use Rattle.std.specs.List.{AllByRecursion as All}
+use Rattle.std.specs.Prelude.{◌≡◌, ℕ, List, take, Ok, Result}
 use Rattle.fault.specs.declared.refusal.Refusal.{Refusal}
 use Rattle.packet.specs.declared.target.Target.{Target}
 use Rattle.packet.specs.declared.instruction.Instruction.{Instruction}

@@ -1,5 +1,7 @@
 //! Reading what a program is given on standard input.
 
+#![tactic(auto)]
+
 ghost use Rattle.std.specs.Prelude.{◌≤◌, length, IfOk};
 
 use std::io;

@@ -1,5 +1,7 @@
 //! Lists the records of one block, which it reads from standard input.
 
+#![tactic(auto)]
+
 mod lines;
 
 use crate::lines::Tally;

@@ -1,5 +1,5 @@
 -- What the cells of a strip are among the cells below.
-use Rattle.std.proofs.Common.{◌≡◌, ℕ, zero, suc, ◌+◌, ◌-◌, ◌<◌, ◌≤◌, List, [], ◌∷◌, ◌++◌, length, take, drop, set, sym, refl, ap, ◌∙◌, arith, rules}
+use Rattle.std.proofs.Common.{◌≡◌, ℕ, zero, suc, ◌+◌, ◌<◌, ◌≤◌, List, [], ◌∷◌, ◌++◌, length, take, drop, set, sym, refl, ap, ◌∙◌, arith, rules}
 use Rattle.std.proofs.lemmas.List.{drop-set-add, drop-drop, take-append-drop, places}
 use Rattle.memory.specs.Bounds.{length_strip}
 use Rattle.memory.specs.Cells.{outside_of, put_back, cell_read, cell_write, strip_cells}

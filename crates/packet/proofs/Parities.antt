@@ -1,5 +1,5 @@
 -- Laws of the XOR of a list's bytes.
-use Rattle.std.proofs.Common.{◌≡◌, ℕ, List, [], ◌∷◌, ◌++◌, sym, refl, ap, ◌∙◌}
+use Rattle.std.proofs.Common.{◌≡◌, ℕ, List, [], ◌∷◌, ◌++◌, sym, ap, ◌∙◌}
 use lib.Bits.{bit_xor, xor_assoc, xor_zero_r, xor_zero_l, xor_self}
 use Rattle.packet.specs.Parity.{parity, sealed}
 

@@ -1,5 +1,7 @@
 //! What a DCC packet says: its target, its instruction, and the numbers of configuration variables.
 
+#![tactic(auto)]
+
 pub mod cv;
 mod error_byte;
 pub mod instruction;

@@ -1,5 +1,7 @@
 //! Reads a packet: from its bytes to its target and instruction, or to the first cause for which it is refused.
 
+#![tactic(auto)]
+
 mod accessory;
 mod mobile;
 mod reading;

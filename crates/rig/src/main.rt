@@ -1,5 +1,7 @@
 //! Performs scripts on a board, and compares what boards make of captures.
 
+#![tactic(auto)]
+
 mod banks;
 mod capture;
 mod digest;
@@ -26,6 +28,7 @@ use crate::files::{read_input, read_script};
 use crate::performing::run_script;
 use crate::trouble::Trouble;
 use crate::twin::{replay, twin, twin_with_other};
+use std::process::ExitCode;
 use std::{env, io};
 
 const USAGE: &str = "usage: rig run [FILE]
@@ -129,13 +132,13 @@ fn tell(rt: &HostRuntime, trouble: &Trouble) -> io::Result<()> {
     }
 }
 
-fn main(rt: HostRuntime) -> Result<(), Trouble> {
+fn main(rt: HostRuntime) -> ExitCode {
     match perform(&rt) {
-        Ok(()) => Ok(()),
+        Ok(()) => ExitCode::SUCCESS,
         Err(trouble) => {
             // Where standard error fails too, the status still tells.
             let _ = tell(&rt, &trouble);
-            Err(trouble)
+            ExitCode::FAILURE
         }
     }
 }

@@ -1,10 +1,8 @@
 use std::io;
+use std::io::IsTerminal;
 
 /// How many blocks pass between two reports.
 const STRIDE: usize = 4096;
-
-/// The descriptor of standard error.
-const STDERR: i32 = 2;
 
 /// Tells on standard error how far a long capture has come, where that is a terminal.
 #[derive(Clone, Copy)]
@@ -14,8 +12,8 @@ pub struct Progress {
 }
 
 impl Progress {
-    pub(crate) fn new(total: usize) -> Progress {
-        let shown = total > STRIDE && libc::isatty(STDERR) == 1;
+    pub(crate) fn new(rt: &HostRuntime, total: usize) -> Progress {
+        let shown = total > STRIDE && rt.stderr().is_terminal();
         Progress { total, shown }
     }
 

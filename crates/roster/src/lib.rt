@@ -1,5 +1,7 @@
 //! What happens to all decoders of a board at their slots: a block, a setting, a reading. Every call is lent the banks and the memory.
 
+#![tactic(auto)]
+
 mod asking;
 mod counting;
 mod lending;

@@ -1,5 +1,7 @@
 //! What is asked of a board and what it answers, and what a whole run of such calls comes to.
 
+#![tactic(auto)]
+
 mod answer;
 mod call;
 mod fit;

@@ -1,5 +1,7 @@
 //! What a decoder holds while it has power: speed, functions, binary states, outputs, aspect, a waiting write and the latest reply.
 
+#![tactic(auto)]
+
 mod bits;
 pub mod functions;
 mod groups;

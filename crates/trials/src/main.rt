@@ -1,5 +1,7 @@
 //! Holds a table of packets, from standard input, to what they should say, and writes each accepted one again.
 
+#![tactic(auto)]
+
 #[cfg(test)]
 mod blocks;
 #[cfg(test)]

@@ -1,5 +1,7 @@
 //! Targets, instructions and packets in words, for people.
 
+#![tactic(auto)]
+
 mod instructions;
 mod targets;
 pub mod wrapper;

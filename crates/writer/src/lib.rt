@@ -1,5 +1,7 @@
 //! Writes a packet: from a target and an instruction to its bytes, or to the refusal.
 
+#![tactic(auto)]
+
 mod body;
 mod bytes;
 mod contents;

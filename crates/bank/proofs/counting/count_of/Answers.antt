@@ -10,8 +10,8 @@ pub loop-found-preserved-then-not-is : goal.loop-found-preserved-then-not-is
 unfolding is_kind
 loop-found-preserved-then-not-is c = c.loop-found.invariant ∙ sym (count_miss _ _ (sym c.is.ensures ∙ c.if-not-is.true))
 
-pub overflow-add-next : goal.overflow-add-next
-overflow-add-next c = let m = count_most (is_kind c.args.kinds.now c.args.kind) c.loop-found.found-index in search rules
+pub overflow_add-next : goal.overflow_add-next
+overflow_add-next c = let m = count_most (is_kind c.args.kinds.now c.args.kind) c.loop-found.found-index in search rules
 
 pub loop-found-preserved : goal.loop-found-preserved
 unfolding is_kind

@@ -6,9 +6,9 @@ pub returns : goal.returns
 returns g c =
     record {
       answer = search rules;
-      turned = λ _. c.deliver-all.ensures.turned;
-      kept = λ _. c.deliver-all.ensures.kept;
+      turned = λ _. c.deliver_all.ensures.turned;
+      kept = λ _. c.deliver_all.ensures.kept;
       refused = search rules;
-      beyond = kept_beyond c.deliver-all.ensures.kept;
-      outside = c.deliver-all.ensures.outside;
+      beyond = kept_beyond c.deliver_all.ensures.kept;
+      outside = c.deliver_all.ensures.outside;
     }

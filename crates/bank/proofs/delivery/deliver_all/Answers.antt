@@ -27,8 +27,8 @@ in_bank g c =
     let l = count_less (is_kind c.args.kinds.now c.args.kind) c.loop-slot.slot _ c.loop-slot-test.true (is_hit g c) in
     omega (arith, c.loop-slot.invariant.2, c.requires.records, c.loop-slot.auto.bank)
 
-pub offset-bounds-bank-next : goal.offset-bounds-bank-next
-offset-bounds-bank-next g c = let l = in_bank g c in search rules
+pub offset_bounds-bank-next : goal.offset_bounds-bank-next
+offset_bounds-bank-next g c = let l = in_bank g c in search rules
 
 pub bounds-bank-next : goal.bounds-bank-next
 bounds-bank-next g c = in_bank g c
@@ -36,13 +36,13 @@ bounds-bank-next g c = in_bank g c
 pub hear-hears-requires : goal.hear-hears-requires
 hear-hears-requires g c = let s = c.loop-slot.invariant.1.size in record { room = omega arith; small = omega arith }
 
-pub overflow-add-heard : goal.overflow-add-heard
-overflow-add-heard g c =
+pub overflow_add-heard : goal.overflow_add-heard
+overflow_add-heard g c =
     let m = count_most (hears_at g.T.Listener.rules c.args.target (is_kind c.args.kinds.now c.args.kind) c.args.bank.now (g.M.Memory.cells c.args.memory.now)) c.loop-slot.slot in
     search rules
 
-pub overflow-add-next : goal.overflow-add-next
-overflow-add-next g c = let l = in_bank g (goal.at.overflow-add-next g c).Else-not-is in search rules
+pub overflow_add-next : goal.overflow_add-next
+overflow_add-next g c = let l = in_bank g (goal.at.overflow_add-next g c).Else-not-is in search rules
 
 pub loop-slot-preserved : goal.loop-slot-preserved
 loop-slot-preserved g c =

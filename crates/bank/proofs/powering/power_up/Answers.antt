@@ -8,6 +8,6 @@ pub returns : goal.returns
 returns g c =
     record {
       answer = search rules;
-      turned = λ _. first_turned (is_kind c.args.kinds.now c.args.kind) (length c.args.kinds.now) (subst (λ k. ChangedBelow k g.T.Listener.rules.starts c.args.bank.now c.power-up-first.new.bank) c.count-of-count.ensures c.power-up-first.ensures);
+      turned = λ _. first_turned (is_kind c.args.kinds.now c.args.kind) (length c.args.kinds.now) (subst (λ k. ChangedBelow k g.T.Listener.rules.starts c.args.bank.now c.power_up_first.new.bank) c.count_of-count.ensures c.power_up_first.ensures);
       refused = search rules;
     }

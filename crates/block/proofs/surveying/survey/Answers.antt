@@ -11,12 +11,12 @@ use Rattle.block.proofs.Tilings.{survey_tells, survey_refuses}
 use Rattle.block.proofs.Walkings.{found_none, found_fault, found_record, moves_on}
 use Rattle.block.proofs.surveying.survey.Goals as goal
 
-pub returns-in-err-item-items : goal.returns-in-err-item-items
-returns-in-err-item-items c =
+pub returns-in_err-item-items : goal.returns-in_err-item-items
+returns-in_err-item-items c =
     let b = c.args.block.now in
-    let p = err_from_is_err_and c.from-residual.result c.from-residual.ensures.1 in
-    let h = c.in-err-item-items.ensures.begins in
-    let r = survey_refuses b c.in-err-item-items.field-0.0 h.0 h.1 in
+    let p = err_from_is_err_and c.from_residual.result c.from_residual.ensures.1 in
+    let h = c.in_err-item-items.ensures.begins in
+    let r = survey_refuses b c.in_err-item-items.field-0.0 h.0 h.1 in
     rw (p.1, p.2) (record { is = r.0; tiles = tt; ends = tt; nothing = r.1 })
 
 pub loop-item-preserved-in-PowerUp : goal.loop-item-preserved-in-PowerUp
@@ -24,7 +24,7 @@ loop-item-preserved-in-PowerUp c =
     let b = c.args.block.now in
     let o = c.loop-item.end in
     let p = c.loop-item.packets in
-    let u = c.loop-item.power-ups in
+    let u = c.loop-item.power_ups in
     let s = c.loop-item.item-iterator in
     let t = c.next.new.self in
     let d = c.in-Ok.carried in
@@ -39,7 +39,7 @@ loop-item-preserved c =
     let b = c.args.block.now in
     let o = c.loop-item.end in
     let p = c.loop-item.packets in
-    let u = c.loop-item.power-ups in
+    let u = c.loop-item.power_ups in
     let s = c.loop-item.item-iterator in
     let t = c.next.new.self in
     let d = c.in-Ok.carried in
@@ -54,13 +54,13 @@ returns-in-Err c =
     let b = c.args.block.now in
     let o = c.loop-item.end in
     let p = c.loop-item.packets in
-    let u = c.loop-item.power-ups in
+    let u = c.loop-item.power_ups in
     let s = c.loop-item.item-iterator in
     let t = c.next.new.self in
     let a : Advances s (Some (Err c.in-Err.fault)) t = subst (λ x. Advances s (Some x) t) c.in-Err.is c.in-Some.ensures.steps in
     let on = reads_as b o (Err c.in-Err.fault) (found_fault b o s t c.loop-item.invariant.1 c.loop-item.invariant.2 c.in-Err.fault a) in
     let e = sym (ap (λ r. added p u (summed (length b) r)) on ∙ added_none p u o (Some c.in-Err.fault)) ∙ c.loop-item.invariant.0 in
-    let all = survey_tells b _ c.in-ok-item-items.ensures.begins.0 e in
+    let all = survey_tells b _ c.in_ok-item-items.ensures.begins.0 e in
     record { is = all.0; tiles = all.1; ends = all.2; nothing = all.3 }
 
 pub returns-in-None : goal.returns-in-None
@@ -68,7 +68,7 @@ returns-in-None c =
     let b = c.args.block.now in
     let o = c.loop-item.end in
     let p = c.loop-item.packets in
-    let u = c.loop-item.power-ups in
+    let u = c.loop-item.power_ups in
     let s = c.loop-item.item-iterator in
     let t = c.next.new.self in
     let is = found_none b o s t c.loop-item.invariant.1 c.loop-item.invariant.2 c.in-None.ensures.steps in
@@ -76,7 +76,7 @@ returns-in-None c =
     let past : length b ≤ o = told_as b o (Ok None) is in
     let end : o ≡ length b = omega arith in
     let e = ap (λ n. record { packets = p; power_ups = u; end = n; fault = None }) end ∙ sym (ap (λ r. added p u (summed (length b) r)) on ∙ added_none p u (length b) None) ∙ c.loop-item.invariant.0 in
-    let all = survey_tells b _ c.in-ok-item-items.ensures.begins.0 e in
+    let all = survey_tells b _ c.in_ok-item-items.ensures.begins.0 e in
     record { is = all.0; tiles = all.1; ends = all.2; nothing = all.3 }
 
 pub returns-in-Fill : goal.returns-in-Fill
@@ -84,7 +84,7 @@ returns-in-Fill c =
     let b = c.args.block.now in
     let o = c.loop-item.end in
     let p = c.loop-item.packets in
-    let u = c.loop-item.power-ups in
+    let u = c.loop-item.power_ups in
     let s = c.loop-item.item-iterator in
     let t = c.next.new.self in
     let d = c.in-Ok.carried in
@@ -92,5 +92,5 @@ returns-in-Fill c =
     let is = found_record b o s t c.loop-item.invariant.1 c.loop-item.invariant.2 d a in
     let on = reads_fill b o d is c.in-Fill.is in
     let e = sym (ap (λ r. added p u (summed (length b) r)) on ∙ added_none p u o None) ∙ c.loop-item.invariant.0 in
-    let all = survey_tells b _ c.in-ok-item-items.ensures.begins.0 e in
+    let all = survey_tells b _ c.in_ok-item-items.ensures.begins.0 e in
     record { is = all.0; tiles = all.1; ends = all.2; nothing = all.3 }

@@ -13,7 +13,7 @@ loop-i-init g c = fitted_none _ _ _ _ c.requires.new
 pub loop-i-preserved : goal.loop-i-preserved
 loop-i-preserved g c =
     let l'' : Lent = lent c.fit.new.mobiles c.fit.new.basics c.fit.new.extendeds (g.M.Memory.cells c.fit.new.memory) (g.M.Memory.outside c.fit.new.memory) in
-    fitted_more c.loop-i.invariant _ (Mobile (Short 0)) (fitting_kinds c.fit.new.self) l'' c.fit.result c.fitted-answer.result c.loop-i-test.true (omega arith) refl c.fit.ensures.answer c.fit.ensures.joins c.fitted-answer.ensures
+    fitted_more c.loop-i.invariant _ (Mobile (Short 0)) (fitting_kinds c.fit.new.self) l'' c.fit.result c.fitted_answer.result c.loop-i-test.true (omega arith) refl c.fit.ensures.answer c.fit.ensures.joins c.fitted_answer.ensures
 
 pub returns : goal.returns
 returns g c =

@@ -7,18 +7,18 @@ use Rattle.board.specs.Steps.{FittedTo}
 use Rattle.board.proofs.Scripts.{has_run, all_rest}
 use Rattle.board.proofs.runs.run.Goals as goal
 
-pub perform-all-requires : goal.perform-all-requires
+pub perform-all-requires : goal.perform_all-requires
 perform-all-requires g c =
-    let l₁ : Lent = lent c.fit-all.new.mobiles c.fit-all.new.basics c.fit-all.new.extendeds (g.M.Memory.cells c.fit-all.new.memory) (g.M.Memory.outside c.fit-all.new.memory) in
-    record { lent = ap (λ ks. is_lent ks l₁) c.start-board.ensures ∙ c.fit-all.ensures.enough; room = omega arith }
+    let l₁ : Lent = lent c.fit_all.new.mobiles c.fit_all.new.basics c.fit_all.new.extendeds (g.M.Memory.cells c.fit_all.new.memory) (g.M.Memory.outside c.fit_all.new.memory) in
+    record { lent = ap (λ ks. is_lent ks l₁) c.start-board.ensures ∙ c.fit_all.ensures.enough; room = omega arith }
 
 pub returns : goal.returns
 returns g c =
     let fs = c.args.fits.now in
     let l : Lent = lent c.args.mobiles.now c.args.basics.now c.args.extendeds.now (g.M.Memory.cells c.args.memory.now) (g.M.Memory.outside c.args.memory.now) in
-    let l₁ : Lent = lent c.fit-all.new.mobiles c.fit-all.new.basics c.fit-all.new.extendeds (g.M.Memory.cells c.fit-all.new.memory) (g.M.Memory.outside c.fit-all.new.memory) in
-    let f = subst (λ ks. FittedTo (length fs) fs l ks l₁ c.args.numbers.now c.fit-all.new.numbers) (sym c.start-board.ensures) c.fit-all.ensures in
-    let p = c.perform-all.ensures in
+    let l₁ : Lent = lent c.fit_all.new.mobiles c.fit_all.new.basics c.fit_all.new.extendeds (g.M.Memory.cells c.fit_all.new.memory) (g.M.Memory.outside c.fit_all.new.memory) in
+    let f = subst (λ ks. FittedTo (length fs) fs l ks l₁ c.args.numbers.now c.fit_all.new.numbers) (sym c.start-board.ensures) c.fit_all.ensures in
+    let p = c.perform_all.ensures in
     record {
       answer = sym (cond-true _ _ _ (and_from _ _ (le-leb (length fs) (length c.args.numbers.now) (omega arith)) (le-leb (length c.args.calls.now) (length c.args.answers.now) (omega arith))));
       promised = is_promised (has_run f p) (all_rest f p);

@@ -1,7 +1,6 @@
-use Rattle.std.proofs.Common.{◌<◌, ◌≤◌, length, sym, ap, ◌∙◌, arith}
-use lib.Bits.{bit_xor, xor_assoc, xor_zero_r}
+use Rattle.std.proofs.Common.{◌<◌, ◌≤◌, length, sym, ◌∙◌, arith}
+use lib.Bits.{xor_assoc, xor_zero_r}
 use Rattle.std.proofs.lemmas.List.{drop_more, drop_all}
-use Rattle.packet.specs.Parity.{parity}
 use Rattle.packet.proofs.error_byte.parity.Goals as goal
 
 pub loop-byte-preserved : goal.loop-byte-preserved

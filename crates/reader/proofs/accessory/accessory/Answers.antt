@@ -11,8 +11,8 @@ returns-in-empty c = search rules
 pub returns-then-second-ge128 : goal.returns-then-second-ge128
 returns-then-second-ge128 c = grind (arith, nat_tests, accessory_some)
 
-pub returns-then-is-extended-head : goal.returns-then-is-extended-head
-returns-then-is-extended-head c = grind (arith, nat_tests, accessory_some)
+pub returns-then-is_extended_head : goal.returns-then-is_extended_head
+returns-then-is_extended_head c = grind (arith, nat_tests, accessory_some)
 
-pub returns-else-is-extended-head : goal.returns-else-is-extended-head
-returns-else-is-extended-head c = grind (arith, nat_tests, accessory_some)
+pub returns-else-is_extended_head : goal.returns-else-is_extended_head
+returns-else-is_extended_head c = grind (arith, nat_tests, accessory_some)

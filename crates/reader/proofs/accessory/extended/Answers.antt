@@ -11,5 +11,5 @@ returns-in-empty c = search rules
 pub returns-in-0-to-31 : goal.returns-in-0-to-31
 returns-in-0-to-31 c = search (rules, extended_some)
 
-pub returns-in-default : goal.returns-in-default
-returns-in-default c = grind (arith, nat_tests, extended_some)
+pub returns-in_default : goal.returns-in_default
+returns-in_default c = grind (arith, nat_tests, extended_some)

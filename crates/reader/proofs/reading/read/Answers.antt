@@ -9,10 +9,10 @@ use Rattle.reader.proofs.reading.read.Goals as goal
 pub returns : goal.returns
 returns c =
     let bs = c.args.packet.now in
-    let bytes = All-from_get_or (λ b. b < 256) c.args.packet.now 0 (λ k _. (c.type-inv.packet k).fits) in
+    let bytes = All-from_get_or (λ b. b < 256) c.args.packet.now 0 (λ k _. (c.type_inv.packet k).fits) in
     record {
       value = c.decode.ensures;
       written_back = λ p e. read_writes bs bytes p (sym c.decode.ensures ∙ e);
-      all-accepted = λ t i e. c.decode.ensures ∙ written_reads t i bs e;
+      all_accepted = λ t i e. c.decode.ensures ∙ written_reads t i bs e;
       refused = ap refusal_in c.decode.ensures ∙ reading_refused bs bytes;
     }

@@ -11,8 +11,8 @@ returns-in-empty c = search rules
 pub returns-in-228-to-239 : goal.returns-in-228-to-239
 returns-in-228-to-239 c = grind (arith, nat_tests, access_some)
 
-pub returns-in-default : goal.returns-in-default
-returns-in-default c = grind (arith, nat_tests, access_some)
+pub returns-in_default : goal.returns-in_default
+returns-in_default c = grind (arith, nat_tests, access_some)
 
-pub returns-in-default·2 : goal.returns-in-default·2
-returns-in-default·2 c = grind (arith, nat_tests, access_some)
+pub returns-in_default-2 : goal.returns-in_default-2
+returns-in_default-2 c = grind (arith, nat_tests, access_some)

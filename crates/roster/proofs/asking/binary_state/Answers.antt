@@ -4,12 +4,12 @@ use Rattle.state.specs.Kept.{state_at}
 use Rattle.script.specs.Decoders.{in_range}
 use Rattle.roster.proofs.asking.binary_state.Goals as goal
 
-pub returns-in-err-at : goal.returns-in-err-at
-returns-in-err-at g c =
-    let p = err_from_is_err_and c.from-residual.result c.from-residual.ensures.1 in
-    rw (p.1, p.2) (sym (c.in-err-at.ensures (λ x. in_range (state_at x.state.states.bits c.args.number))))
+pub returns-in_err-at : goal.returns-in_err-at
+returns-in_err-at g c =
+    let p = err_from_is_err_and c.from_residual.result c.from_residual.ensures.1 in
+    rw (p.1, p.2) (sym (c.in_err-at.ensures (λ x. in_range (state_at x.state.states.bits c.args.number))))
 
 pub returns : goal.returns
 returns g c =
-    c.in-range.ensures ∙ ap in_range c.get.ensures
-    ∙ sym (c.in-ok-at.ensures.1 c.index-mobiles-at.result (λ x. in_range (state_at x.state.states.bits c.args.number)))
+    c.in_range.ensures ∙ ap in_range c.get.ensures
+    ∙ sym (c.in_ok-at.ensures.1 c.index-mobiles-at.result (λ x. in_range (state_at x.state.states.bits c.args.number)))

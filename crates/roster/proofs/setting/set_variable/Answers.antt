@@ -12,27 +12,27 @@ use Rattle.roster.proofs.Sendings.{enough}
 use Rattle.roster.proofs.Askings.{lent_is, about_none, about_some, mobile_there, basic_there, extended_there, not_variable, is_variable_lem, set-mobile, rest_mobile, set-basic, rest_basic, set-extended, rest_extended, setting_at, no_setting}
 use Rattle.roster.proofs.setting.set_variable.Goals as goal
 
-pub returns-in-default : goal.returns-in-default
-returns-in-default g c =
+pub returns-in_default : goal.returns-in_default
+returns-in_default g c =
     let ks = c.args.kinds.now in
     let l : Lent = lent c.args.mobiles.now c.args.basics.now c.args.extendeds.now (g.M.Memory.cells c.args.memory.now) (g.M.Memory.outside c.args.memory.now) in
-    let is : is_lent ks l ≡ true = sym c.is_lent_lem.ensures.answer ∙ c.if-not-is-lent.false in
+    let is : is_lent ks l ≡ true = sym c.is_lent.ensures.answer ∙ c.if-not-is_lent.false in
     record {
-      answer = ap Err c.refused-in-default.ensures ∙ sym (about_none ks l c.args.decoder (λ _. if_variable c.args.variable tt) c.in-default.ensures) ∙ lent_is (is_lent ks l) _ is;
-      after = sym (cond-true _ _ _ is ∙ changes_none ks l c.args.decoder (λ d. lives d (events_of (Set c.args.variable c.args.value))) c.in-default.ensures);
+      answer = ap Err c.refused-in_default.ensures ∙ sym (about_none ks l c.args.decoder (λ _. if_variable c.args.variable tt) c.in_default.ensures) ∙ lent_is (is_lent ks l) _ is;
+      after = sym (cond-true _ _ _ is ∙ changes_none ks l c.args.decoder (λ d. lives d (events_of (Set c.args.variable c.args.value))) c.in_default.ensures);
       rest = rest_none;
       refused = refl;
     }
 
-pub returns-in-default-new : goal.returns-in-default-new
-returns-in-default-new g c =
+pub returns-in_default-new : goal.returns-in_default-new
+returns-in_default-new g c =
     let ks = c.args.kinds.now in
     let l : Lent = lent c.args.mobiles.now c.args.basics.now c.args.extendeds.now (g.M.Memory.cells c.args.memory.now) (g.M.Memory.outside c.args.memory.now) in
-    let is : is_lent ks l ≡ true = sym c.is_lent_lem.ensures.answer ∙ c.if-not-is-lent.false in
-    let none = c.in-default-new.ensures in
+    let is : is_lent ks l ≡ true = sym c.is_lent.ensures.answer ∙ c.if-not-is_lent.false in
+    let none = c.in_default-new.ensures in
     record {
       answer =
-          ap Err c.refused-in-default-new.ensures
+          ap Err c.refused-in_default-new.ensures
           ∙ sym (about_some ks l c.args.decoder (λ _. if_variable c.args.variable tt) c.in-Some.slot c.in-Some.ensures ∙ cond-false _ _ _ (not_variable c.args.variable none))
           ∙ lent_is (is_lent ks l) _ is;
       after = no_setting ks l c.args.decoder c.in-Some.slot c.args.variable c.args.value c.in-Some.ensures none ∙ sym (cond-true _ _ _ is);
@@ -47,10 +47,10 @@ returns-in-Mobile g c =
     let s = c.in-Some.slot in
     let j = c.args.decoder.number in
     let cv = c.in-Some-new.cv in
-    let is : is_lent ks l ≡ true = sym c.is_lent_lem.ensures.answer ∙ c.if-not-is-lent.false in
+    let is : is_lent ks l ≡ true = sym c.is_lent.ensures.answer ∙ c.if-not-is_lent.false in
     let h : SlotOf (is_kind ks Mobile) (length ks) j (Some s) = subst (λ k. SlotOf (is_kind ks k) (length ks) j (Some s)) c.in-Mobile.is c.in-Some.ensures in
     let r = enough ks l is in
-    let done = c.set-variable in
+    let done = c.set_variable in
     let there = and_from _ _ (lt-ltb j (length l.mobiles) (mobile_there ks l s j h r.mobiles)) (le-leb (1024 * s + 1024) (length l.cells) (omega (arith, r.cells, h.0))) in
     let e = c.in-Some-new.ensures in
     let answer = done.ensures.answer ∙ cond-true _ _ _ there in
@@ -77,10 +77,10 @@ returns-in-Basic g c =
     let s = c.in-Some.slot in
     let j = c.args.decoder.number in
     let cv = c.in-Some-new.cv in
-    let is : is_lent ks l ≡ true = sym c.is_lent_lem.ensures.answer ∙ c.if-not-is-lent.false in
+    let is : is_lent ks l ≡ true = sym c.is_lent.ensures.answer ∙ c.if-not-is_lent.false in
     let h : SlotOf (is_kind ks Basic) (length ks) j (Some s) = subst (λ k. SlotOf (is_kind ks k) (length ks) j (Some s)) c.in-Basic.is c.in-Some.ensures in
     let r = enough ks l is in
-    let done = c.set-variable-in-Basic in
+    let done = c.set_variable-in-Basic in
     let there = and_from _ _ (lt-ltb j (length l.basics) (basic_there ks l s j h r.basics)) (le-leb (1024 * s + 1024) (length l.cells) (omega (arith, r.cells, h.0))) in
     let e = c.in-Some-new.ensures in
     let answer = done.ensures.answer ∙ cond-true _ _ _ there in
@@ -107,10 +107,10 @@ returns-in-Extended g c =
     let s = c.in-Some.slot in
     let j = c.args.decoder.number in
     let cv = c.in-Some-new.cv in
-    let is : is_lent ks l ≡ true = sym c.is_lent_lem.ensures.answer ∙ c.if-not-is-lent.false in
+    let is : is_lent ks l ≡ true = sym c.is_lent.ensures.answer ∙ c.if-not-is_lent.false in
     let h : SlotOf (is_kind ks Extended) (length ks) j (Some s) = subst (λ k. SlotOf (is_kind ks k) (length ks) j (Some s)) c.in-Extended.is c.in-Some.ensures in
     let r = enough ks l is in
-    let done = c.set-variable-in-Extended in
+    let done = c.set_variable-in-Extended in
     let there = and_from _ _ (lt-ltb j (length l.extendeds) (extended_there ks l s j h r.extendeds)) (le-leb (1024 * s + 1024) (length l.cells) (omega (arith, r.cells, h.0))) in
     let e = c.in-Some-new.ensures in
     let answer = done.ensures.answer ∙ cond-true _ _ _ there in

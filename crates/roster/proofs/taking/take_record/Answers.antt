@@ -25,6 +25,6 @@ returns-in-PowerUp g c =
     let e : thing_in c.args.carried.now.«record» ≡ power_up = ap thing_in c.in-PowerUp.is in
     record {
       counted = sym (ap (counted c.args.taken.now ds c.args.carried.now.offset) e);
-      after = c.power-up-all.ensures.after cells outside ∙ sym (ap (λ t. map (met t) ds) e);
-      rest = c.power-up-all.ensures.rest cells outside;
+      after = c.power_up_all.ensures.after cells outside ∙ sym (ap (λ t. map (met t) ds) e);
+      rest = c.power_up_all.ensures.rest cells outside;
     }

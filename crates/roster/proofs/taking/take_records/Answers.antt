@@ -18,9 +18,9 @@ loop-item-preserved g c =
     let is = found_record b (stands_at s) s t inv.1 refl d a in
     let on = moves_on b (stands_at s) s t inv.1 refl d a in
     let l : Lent = lent c.args.mobiles.now c.args.basics.now c.args.extendeds.now (g.M.Memory.cells c.args.memory.now) (g.M.Memory.outside c.args.memory.now) in
-    let last = c.take-record.new in
+    let last = c.take_record.new in
     let l'' : Lent = lent last.mobiles last.basics last.extendeds (g.M.Memory.cells last.memory) (g.M.Memory.outside last.memory) in
-    (subst (λ o. Midway c.args.kinds.now l l'' b o last.taken) (sym on) (midway_more inv.0 d is c.take-record.ensures.counted c.take-record.ensures.after c.take-record.ensures.rest), a.same ∙ inv.1)
+    (subst (λ o. Midway c.args.kinds.now l l'' b o last.taken) (sym on) (midway_more inv.0 d is c.take_record.ensures.counted c.take_record.ensures.after c.take_record.ensures.rest), a.same ∙ inv.1)
 
 pub returns-in-Err : goal.returns-in-Err
 returns-in-Err g c =
@@ -30,7 +30,7 @@ returns-in-Err g c =
     let inv = c.loop-item.invariant in
     let a : Advances s (Some (Err c.in-Err.fault)) t = subst (λ x. Advances s (Some x) t) c.in-Err.is c.in-Some.ensures.steps in
     let m = midway_fault inv.0 c.in-Err.fault (found_fault b (stands_at s) s t inv.1 refl c.in-Err.fault a) in
-    let good = c.in-ok-item-items.ensures.begins.0 in
+    let good = c.in_ok-item-items.ensures.begins.0 in
     let ds = decoders c.args.kinds.now (lent c.args.mobiles.now c.args.basics.now c.args.extendeds.now (g.M.Memory.cells c.args.memory.now) (g.M.Memory.outside c.args.memory.now)) in
     record {
       answer = ap Ok m.0 ∙ sym (cond-true _ _ _ good);
@@ -46,7 +46,7 @@ returns g c =
     let t = c.next.new.self in
     let inv = c.loop-item.invariant in
     let m = midway_all inv.0 (found_none b (stands_at s) s t inv.1 refl c.in-None.ensures.steps) in
-    let good = c.in-ok-item-items.ensures.begins.0 in
+    let good = c.in_ok-item-items.ensures.begins.0 in
     let ds = decoders c.args.kinds.now (lent c.args.mobiles.now c.args.basics.now c.args.extendeds.now (g.M.Memory.cells c.args.memory.now) (g.M.Memory.outside c.args.memory.now)) in
     record {
       answer = ap Ok m.0 ∙ sym (cond-true _ _ _ good);

@@ -1,4 +1,4 @@
-use Rattle.std.proofs.Common.{◌≡◌, ◌%◌, ◌<◌, true, false, arith, rules}
+use Rattle.std.proofs.Common.{◌%◌, ◌<◌, arith, rules}
 use Rattle.state.proofs.Tables.{or_bit, and_bit}
 use Rattle.state.proofs.bits.with_bit.Goals as goal
 

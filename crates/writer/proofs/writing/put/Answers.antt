@@ -6,5 +6,5 @@ use Rattle.writer.proofs.writing.put.Goals as goal
 pub returns : goal.returns
 returns c =
     simp
-    (c.copy-from-slice.ensures.after, c.copy-from-slice-2.ensures.after, c.parity.ensures, c.parity-2.ensures, parity-append)
+    (c.copy_from_slice.ensures.after, c.copy_from_slice-2.ensures.after, c.parity.ensures, c.parity-2.ensures, parity-append)
     (packet_put c.args.head.now c.args.body.now c.args.place.now (search rules) _)

@@ -7,5 +7,5 @@ returns c =
     record {
       answered = c.encode.ensures.answered;
       placed = c.encode.ensures.placed;
-      reads-back = λ n e. placed_reads c.args.target c.args.instruction c.args.place.now _ n c.encode.ensures.placed (sym c.encode.ensures.answered ∙ e);
+      reads_back = λ n e. placed_reads c.args.target c.args.instruction c.args.place.now _ n c.encode.ensures.placed (sym c.encode.ensures.answered ∙ e);
     }

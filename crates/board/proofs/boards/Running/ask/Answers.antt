@@ -23,14 +23,14 @@ returns-in-Set g c =
     let is : c.args.request ≡ q = c.in-Set.is in
     record {
       answer =
-          c.set-answer.ensures ∙ ap (answered (λ _. answer.Set)) c.set.ensures.answer
+          c.set_answer.ensures ∙ ap (answered (λ _. answer.Set)) c.set.ensures.answer
           ∙ asked_when (λ _. answer.Set) (λ _. if_variable c.in-Set.variable tt) q (λ d. refl) (is_lent ks l) (decoder_of c.args.decoder ds)
           ∙ sym (ap (λ q. answer_when (is_lent ks l) (asked q (decoder_of c.args.decoder ds))) is);
       after = c.set.ensures.after ∙ sym (ap (λ q. cond (is_lent ks l) (after_call ds (Ask c.args.decoder q)) ds) is);
       rest = c.set.ensures.rest;
       refused =
           let P : Answer → Type 0 = λ a. OnRefused a (l' ≡ l) in
-          subst P (sym c.set-answer.ensures) (refused_by_lem (λ _. answer.Set) (l' ≡ l) (λ _. tt) c.set.result c.set.ensures.refused);
+          subst P (sym c.set_answer.ensures) (refused_by_lem (λ _. answer.Set) (l' ≡ l) (λ _. tt) c.set.result c.set.ensures.refused);
     }
 
 pub returns-in-State : goal.returns-in-State
@@ -41,12 +41,12 @@ returns-in-State g c =
     let is = c.in-State.is in
     record {
       answer =
-          c.state-answer.ensures
+          c.state_answer.ensures
           ∙ asked_when answer.State (λ d. Ok (state_of d)) State (λ d. refl) (is_lent ks l) (decoder_of c.args.decoder ds)
           ∙ sym (ap (λ q. answer_when (is_lent ks l) (asked q (decoder_of c.args.decoder ds))) is);
       after = read_after c.args.decoder c.args.request (ap events_of is) (is_lent ks l) ds;
       rest = rest_none;
-      refused = refused_anyhow _ refl c.state-answer.result;
+      refused = refused_anyhow _ refl c.state_answer.result;
     }
 
 pub returns-in-Variable : goal.returns-in-Variable
@@ -60,12 +60,12 @@ returns-in-Variable g c =
     let same : l' ≡ l = c.variable.ensures.same in
     record {
       answer =
-          c.variable-answer.ensures ∙ ap (answered answer.Variable) c.variable.ensures.answer
+          c.variable_answer.ensures ∙ ap (answered answer.Variable) c.variable.ensures.answer
           ∙ asked_when answer.Variable (variable_in c.in-Variable.number) (Variable c.in-Variable.number) (λ d. refl) (is_lent ks l) (decoder_of c.args.decoder ds)
           ∙ sym (ap (λ q. answer_when (is_lent ks l) (asked q (decoder_of c.args.decoder ds))) is);
       after = ap (decoders ks) same ∙ read_after c.args.decoder c.args.request (ap events_of is) (is_lent ks l) ds;
       rest = subst (λ m. Rest ks l m) (sym same) rest_none;
-      refused = refused_anyhow (l' ≡ l) same c.variable-answer.result;
+      refused = refused_anyhow (l' ≡ l) same c.variable_answer.result;
     }
 
 pub returns-in-Function : goal.returns-in-Function
@@ -76,12 +76,12 @@ returns-in-Function g c =
     let is = c.in-Function.is in
     record {
       answer =
-          c.function-answer.ensures ∙ ap (answered answer.Function) c.function.ensures
+          c.function_answer.ensures ∙ ap (answered answer.Function) c.function.ensures
           ∙ asked_when answer.Function (function_in c.in-Function.number) (Function c.in-Function.number) (λ d. refl) (is_lent ks l) (decoder_of c.args.decoder ds)
           ∙ sym (ap (λ q. answer_when (is_lent ks l) (asked q (decoder_of c.args.decoder ds))) is);
       after = read_after c.args.decoder c.args.request (ap events_of is) (is_lent ks l) ds;
       rest = rest_none;
-      refused = refused_anyhow _ refl c.function-answer.result;
+      refused = refused_anyhow _ refl c.function_answer.result;
     }
 
 pub returns-in-BinaryState : goal.returns-in-BinaryState
@@ -92,10 +92,10 @@ returns-in-BinaryState g c =
     let is = c.in-BinaryState.is in
     record {
       answer =
-          c.binary-state-answer.ensures ∙ ap (answered answer.BinaryState) c.binary-state.ensures
+          c.binary_state_answer.ensures ∙ ap (answered answer.BinaryState) c.binary_state.ensures
           ∙ asked_when answer.BinaryState (binary_state_in c.in-BinaryState.number) (BinaryState c.in-BinaryState.number) (λ d. refl) (is_lent ks l) (decoder_of c.args.decoder ds)
           ∙ sym (ap (λ q. answer_when (is_lent ks l) (asked q (decoder_of c.args.decoder ds))) is);
       after = read_after c.args.decoder c.args.request (ap events_of is) (is_lent ks l) ds;
       rest = rest_none;
-      refused = refused_anyhow _ refl c.binary-state-answer.result;
+      refused = refused_anyhow _ refl c.binary_state_answer.result;
     }

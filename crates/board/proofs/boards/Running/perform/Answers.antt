@@ -19,12 +19,12 @@ returns-in-Take g c =
     let is = c.in-Take.is in
     record {
       answer =
-          c.taken-answer.ensures ∙ ap (answered Taken) c.take.ensures.answer
+          c.taken_answer.ensures ∙ ap (answered Taken) c.take.ensures.answer
           ∙ answered_when Taken (is_lent ks l) (taking ds c.in-Take.block.now)
           ∙ sym (ap (λ (k : Call). answer_when (is_lent ks l) (answer_to ds k)) is);
       after = c.take.ensures.after ∙ sym (ap (λ (k : Call). cond (is_lent ks l) (after_call ds k) ds) is);
       rest = c.take.ensures.rest;
       refused =
           let P : Answer → Type 0 = λ a. OnRefused a (l' ≡ l) in
-          subst P (sym c.taken-answer.ensures) (refused_by_lem Taken (l' ≡ l) (λ _. tt) c.take.result c.take.ensures.refused);
+          subst P (sym c.taken_answer.ensures) (refused_by_lem Taken (l' ≡ l) (λ _. tt) c.take.result c.take.ensures.refused);
     }

@@ -6,8 +6,8 @@ use Rattle.memory.proofs.strip.StripMemory.write.Goals as goal
 pub returns-then-cell-count : goal.returns-then-cell-count
 returns-then-cell-count g c = search (rules, set_past)
 
-pub overflow-add-self : goal.overflow-add-self
-overflow-add-self g c = search (rules, strip_within)
+pub overflow_add-self : goal.overflow_add-self
+overflow_add-self g c = search (rules, strip_within)
 
 pub returns : goal.returns
 returns g c =

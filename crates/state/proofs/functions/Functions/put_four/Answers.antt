@@ -5,4 +5,4 @@ use Rattle.state.proofs.functions.Functions.put_four.Goals as goal
 
 pub returns : goal.returns
 returns c =
-    put_pasted _ _ (four_bits c.args.bits) c.args.first _ (c.copy-from-slice.ensures.after ∙ c.four-bits.ensures) (omega arith)
+    put_pasted _ _ (four_bits c.args.bits) c.args.first _ (c.copy_from_slice.ensures.after ∙ c.four_bits.ensures) (omega arith)

@@ -1,7 +1,0 @@
-use Rattle.std.proofs.Common.{rules}
-use Rattle.std.proofs.lemmas.Slice.Eq.{slice_eq-Decides, bytes_eq-Decides}
-use Rattle.state.proofs.waiting.WaitingWritePartialEq.eq.Goals as goal
-use Rattle.std.proofs.lemmas.Bool.Decides.{Decides-eqb}
-
-pub returns-then-self-other : goal.returns-then-self-other
-returns-then-self-other c = let d = slice_eq-Decides Decides-eqb _ _ _ c.eq.ensures in search (rules, bytes_eq-Decides)
