@@ -1,12 +1,11 @@
 -- The rules of the three kinds are lawful. Assumes nothing.
-use Rattle.std.proofs.Common.{◌≡◌, ℕ, ◌+◌, ◌-◌, ◌%◌, ◌<◌, ◌≤◌, Bool, true, false, cond, not, ◌&&◌, ◌||◌, eqb, ltb, ◌≢◌, List, [], ◌∷◌, length, set, Some, None, Option, sym, refl, ap, ◌∙◌, ⊎_elim, arith, length-set, get_or-set_other, get_or-set_same}
+use Rattle.std.proofs.Common.{◌≡◌, ℕ, ◌+◌, ◌-◌, ◌%◌, ◌≤◌, Bool, true, false, cond, not, ◌&&◌, eqb, ltb, ◌≢◌, List, length, set, Some, None, Option, sym, refl, ap, ◌∙◌, ⊎_elim, arith, length-set, get_or-set_other, get_or-set_same}
 use Rattle.std.proofs.lemmas.Bool.{cases_eq, cond-true, cond-false, eq-eqb, ne_eqb}
 use Rattle.std.proofs.lemmas.Bool.Decides.{nat_tests}
-use Rattle.packet.specs.declared.cv.CvNumber.{CvNumber}
 use Rattle.packet.specs.declared.instruction.Instruction.{Instruction}
 use Rattle.packet.specs.declared.instruction.Instruction.TheVariants.{NoOperation, Reset, HardReset, AdvancedAddressing, AcknowledgmentRequest, Consist, Speed, Speed126, Functions, BinaryStateShort, BinaryStateLong, AccelerationAdjustment, DecelerationAdjustment, VerifyByte, WriteByte, VerifyBit, WriteBit, Output, Aspect}
 use Rattle.state.specs.declared.waiting.WaitingWrite.{WaitingWrite}
-use Rattle.state.specs.Bits.{bit_of, with_bit}
+use Rattle.state.specs.Bits.{bit_of}
 use Rattle.state.specs.Packing.{packed}
 use Rattle.state.proofs.Bitwise.{bit_put}
 use Rattle.decoder.specs.declared.effect.Access.{Access}
@@ -16,7 +15,7 @@ use Rattle.decoder.specs.declared.effect.Effect.{Effect}
 use Rattle.decoder.specs.declared.effect.Effect.TheVariants as effect
 use Rattle.decoder.specs.declared.role.Role.{Role}
 use Rattle.decoder.specs.declared.role.Role.TheVariants as role
-use Rattle.decoder.specs.Accesses.{access_of, agrees, result, matches, barred, is_write, writes_in, waits_after, access_acts}
+use Rattle.decoder.specs.Accesses.{access_of, agrees, result, matches, barred, is_write, writes_in, access_acts}
 use Rattle.packet.specs.declared.target.Target.{Target}
 use Rattle.packet.specs.declared.target.Target.TheVariants.{Idle, Broadcast, Short, Long}
 use Rattle.packet.specs.declared.target.Target.TheVariants as target
@@ -24,9 +23,9 @@ use Rattle.decoder.specs.declared.records.Mobile.{Mobile}
 use Rattle.decoder.specs.declared.records.Basic.{Basic}
 use Rattle.decoder.specs.declared.records.Extended.{Extended}
 use Rattle.decoder.specs.Hearing.{basic_role, extended_role}
-use Rattle.decoder.specs.Mobiles.{access_effect, speed_acts, fully_acts, is_speed, mobile_effect, mobile_plan}
+use Rattle.decoder.specs.Mobiles.{access_effect, speed_acts, fully_acts, is_speed, mobile_effect}
 use Rattle.decoder.specs.Accessories.{basic_plan, extended_plan}
-use Rattle.decoder.specs.Alone.{Own, Rules, own, variable, named, mobile_view, accessory_view, applied, mobile_rules, basic_rules, extended_rules}
+use Rattle.decoder.specs.Alone.{Own, variable, mobile_view, accessory_view, applied, mobile_rules, basic_rules, extended_rules}
 use Rattle.decoder.specs.Persistence.{Ordinary, names, changes, or_else, mobile_exceptions, accessory_exceptions}
 use Rattle.decoder.proofs.Persisted.{Lawful}
 

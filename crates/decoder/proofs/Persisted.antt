@@ -1,9 +1,7 @@
 -- What stands in a variable is what the last setting or write pair gave it, for every kind whose rules are lawful.
-use Rattle.std.proofs.Common.{◌≡◌, ℕ, ◌-◌, ◌<◌, ◌≤◌, Bool, true, false, cond, not, ◌&&◌, eqb, ◌≢◌, ◌⊎◌, List, [], ◌∷◌, reverse, length, set, Some, None, Ok, Err, Option, sym, refl, ap, ◌∙◌, inl, inr, ⊎_elim, arith, length-set, get_or-set_other, get_or-set_same}
+use Rattle.std.proofs.Common.{◌≡◌, ℕ, ◌-◌, ◌≤◌, Bool, true, false, cond, not, ◌&&◌, ◌≢◌, ◌⊎◌, List, [], ◌∷◌, reverse, length, set, Some, None, Ok, Err, Option, sym, refl, ap, ◌∙◌, inl, inr, ⊎_elim, arith, length-set, get_or-set_other, get_or-set_same}
 use mathlib.Core.List.{reverse_aux}
-use Rattle.std.proofs.lemmas.Bool.{cases_Bool}
 use Rattle.std.proofs.lemmas.Bool.Decides.{nat_tests}
-use Rattle.std.specs.Str.{bytes_eq}
 use Rattle.std.proofs.lemmas.Slice.Eq.{bytes_eq-Decides}
 use Rattle.packet.specs.declared.instruction.Instruction.{Instruction}
 use Rattle.packet.specs.declared.packet.Packet.{Packet}
@@ -11,10 +9,10 @@ use Rattle.packet.specs.declared.target.Target.{Target}
 use Rattle.format.specs.Reading.{Told, packet_read}
 use Rattle.state.specs.declared.waiting.WaitingWrite.{WaitingWrite}
 use Rattle.state.specs.Bits.{bit_of}
-use Rattle.state.specs.Packing.{packed, same_waiting}
+use Rattle.state.specs.Packing.{packed}
 use Rattle.decoder.specs.declared.role.Role.{Role}
 use Rattle.decoder.specs.Accesses.{access_of, matches, writes_in, waits_after}
-use Rattle.decoder.specs.Alone.{Own, Rules, Event, own, variable, in_role, hearing, obeyed, live, life}
+use Rattle.decoder.specs.Alone.{Own, Rules, Event, variable, in_role, hearing, obeyed, life}
 use Rattle.decoder.specs.Alone.Event.{heard, powered, setting}
 use Rattle.decoder.specs.Persistence.{Ordinary, names, or_else, is_that, as_write, pair_gives, lived, last_write, given, Persists}
 use Rattle.decoder.proofs.Same.{packed_same}

@@ -1,16 +1,14 @@
 -- The laws of the rules. Assumes nothing.
-use Rattle.std.proofs.Common.{◌≡◌, ℕ, zero, suc, ◌+◌, ◌-◌, ◌<◌, ◌≤◌, Bool, true, false, cond, not, ◌&&◌, eqb, ltb, leb, ◌⊎◌, List, [], ◌∷◌, ◌++◌, length, get_or, take, drop, set, Some, None, Option, sym, refl, ap, ◌∙◌, inl, inr, ⊎_elim, arith, length-take}
+use Rattle.std.proofs.Common.{◌≡◌, ℕ, zero, suc, ◌+◌, ◌-◌, ◌<◌, ◌≤◌, Bool, true, false, cond, not, ◌&&◌, ltb, leb, ◌⊎◌, List, ◌++◌, length, get_or, take, drop, Some, None, refl, ap, ◌∙◌, inl, inr, ⊎_elim, arith}
 use Rattle.std.proofs.lemmas.List.{get_or_append_left, get_or-append_right, get_or-take, get_or-drop, get_or-set_same, get_or-set_other, length-take-le, length-append}
-use Rattle.std.proofs.lemmas.Bool.{true≢false, false≢true, cases_lt, cases_Bool}
+use Rattle.std.proofs.lemmas.Bool.{true≢false, false≢true, cases_lt}
 use Rattle.std.proofs.lemmas.Bool.Decides.{nat_tests}
-use Rattle.packet.specs.declared.instruction.FunctionGroup.{FunctionGroup}
 use Rattle.packet.specs.declared.instruction.FunctionGroup.TheVariants.{F0ToF4, F5ToF8, F9ToF12, F13ToF20, F21ToF28, F29ToF36, F37ToF44, F45ToF52, F53ToF60, F61ToF68}
 use Rattle.packet.specs.declared.instruction.Instruction.{Instruction}
 use Rattle.packet.specs.declared.instruction.Instruction.TheVariants.{NoOperation, Reset, HardReset, AdvancedAddressing, AcknowledgmentRequest, Consist, Speed, Speed126, Functions, BinaryStateShort, BinaryStateLong, AccelerationAdjustment, DecelerationAdjustment, VerifyByte, WriteByte, VerifyBit, WriteBit, Output, Aspect}
 use Rattle.packet.specs.declared.target.Target.{Target}
 use Rattle.format.specs.Reading.{packet_read}
 use Rattle.state.specs.declared.volatile.Reply.TheVariants as reply
-use Rattle.state.specs.declared.waiting.WaitingWrite.{WaitingWrite}
 use Rattle.state.specs.Bits.{bit_of}
 use Rattle.state.specs.Groups.{four_bits, eight_bits, pasted, lit, switched}
 use Rattle.state.specs.Packing.{packed}
@@ -21,14 +19,14 @@ use Rattle.decoder.specs.declared.records.Basic.{Basic}
 use Rattle.decoder.specs.declared.records.Extended.{Extended}
 use Rattle.decoder.specs.declared.role.Role.{Role}
 use Rattle.decoder.specs.declared.role.Role.TheVariants as role
-use Rattle.decoder.specs.Accesses.{access_of, matches, is_write, barred}
+use Rattle.decoder.specs.Accesses.{matches, is_write, barred}
 use Rattle.decoder.specs.Replies.{answer_of}
-use Rattle.decoder.specs.Mobiles.{is_speed, sped, sped_short, with_functions}
+use Rattle.decoder.specs.Mobiles.{sped, with_functions}
 use Rattle.state.specs.declared.volatile.MobileState.{MobileState}
 use Rattle.state.specs.declared.scale.Scale.TheVariants.{Fourteen, TwentyEight}
-use Rattle.decoder.specs.Alone.{Own, Rules, Event, applied, hearing, obeyed, live, mobile_rules, basic_rules, extended_rules}
+use Rattle.decoder.specs.Alone.{Own, Rules, applied, hearing, obeyed, live, mobile_rules, basic_rules, extended_rules}
 use Rattle.decoder.specs.Alone.Event.{heard}
-use Rattle.decoder.specs.Laws.{KindLaws, ReplyNeedsAll, ResetIsPowerUp, OnlySpeed, ByConsistOnlySpeed, StepsInScale, GroupsSwitchTheirOwn, lowest_of, width_of, is_in_group, is_group_one, LightByGroupOne, touches_functions, OthersKeepFunctions, Laws}
+use Rattle.decoder.specs.Laws.{ReplyNeedsAll, ResetIsPowerUp, ByConsistOnlySpeed, GroupsSwitchTheirOwn, is_in_group, LightByGroupOne, OthersKeepFunctions, Laws}
 
 module _ {X : Type 0} (m : Rules X) where
   unheard : (o : Own X) (bs : List ℕ) → hearing m o (packet_read bs) ≡ None → live m o (heard bs) ≡ o

@@ -1,10 +1,9 @@
 -- What an accessory decoder does at an instruction that it hears.
-use Rattle.std.specs.Prelude.{ℕ, ◌%◌, Bool, true, false, cond, List, Some, None, Option, slice_set}
+use Rattle.std.specs.Prelude.{ℕ, ◌%◌, Bool, true, cond, List, Some, None, Option, slice_set}
 use Rattle.packet.specs.declared.instruction.Instruction.{Instruction}
 use Rattle.packet.specs.declared.instruction.Instruction.TheVariants.{NoOperation, Reset, HardReset, AdvancedAddressing, AcknowledgmentRequest, Consist, Speed, Speed126, Functions, BinaryStateShort, BinaryStateLong, AccelerationAdjustment, DecelerationAdjustment, VerifyByte, WriteByte, VerifyBit, WriteBit, Output, Aspect}
 use Rattle.state.specs.declared.volatile.BasicState.{BasicState}
 use Rattle.state.specs.declared.volatile.ExtendedState.{ExtendedState}
-use Rattle.state.specs.declared.volatile.Reply.{Reply}
 use Rattle.state.specs.declared.waiting.WaitingWrite.{WaitingWrite}
 use Rattle.decoder.specs.declared.effect.Effect.{Effect}
 use Rattle.decoder.specs.declared.effect.Effect.TheVariants as effect

@@ -1,14 +1,10 @@
 -- One decoder alone: its record and its 1024 variables, and what its events do to them.
-use Rattle.std.specs.Prelude.{ℕ, ◌-◌, Bool, true, false, cond, List, [], ◌∷◌, set, Some, None, Ok, Err, Option, slice_index, slice_set}
+use Rattle.std.specs.Prelude.{ℕ, ◌-◌, List, [], ◌∷◌, Some, None, Ok, Err, Option, slice_index, slice_set}
 use Rattle.packet.specs.declared.cv.CvNumber.{CvNumber}
 use Rattle.packet.specs.declared.target.Target.{Target}
 use Rattle.packet.specs.declared.instruction.Instruction.{Instruction}
-use Rattle.packet.specs.declared.packet.Packet.{Packet}
 use Rattle.format.specs.Reading.{Told, packet_read}
 use Rattle.state.specs.declared.waiting.WaitingWrite.{WaitingWrite}
-use Rattle.state.specs.declared.volatile.MobileState.{MobileState}
-use Rattle.state.specs.declared.volatile.BasicState.{BasicState}
-use Rattle.state.specs.declared.volatile.ExtendedState.{ExtendedState}
 use Rattle.state.specs.Packing.{packed}
 use Rattle.state.specs.Starting.{mobile_start, basic_start, extended_start}
 use Rattle.decoder.specs.declared.effect.Access.{Access}

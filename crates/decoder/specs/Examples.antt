@@ -1,6 +1,5 @@
 -- Twelve packets, and what the decoders hold afterwards that hear them.
-use Rattle.std.specs.Prelude.{◌≡◌, ℕ, Bool, true, false, List, [], ◌∷◌, replicate, Some, None, Ok, Err, Option, slice_set}
-use Rattle.fault.specs.declared.refusal.Refusal.{Refusal}
+use Rattle.std.specs.Prelude.{◌≡◌, ℕ, true, false, List, [], ◌∷◌, replicate, Some, None, Err, Option, slice_set}
 use Rattle.fault.specs.declared.refusal.Refusal.TheVariants.{ReservedInstruction, InstructionLength}
 use Rattle.format.specs.Reading.{packet_read}
 use Rattle.state.specs.declared.scale.Scale.{Scale}

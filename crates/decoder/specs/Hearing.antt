@@ -1,5 +1,5 @@
 -- Who hears a packet, and by which address.
-use Rattle.std.specs.Prelude.{ℕ, ◌+◌, ◌-◌, ◌*◌, ◌%◌, Bool, true, false, cond, not, ◌&&◌, Some, None, Option, ◌==◌, nat_le}
+use Rattle.std.specs.Prelude.{ℕ, ◌+◌, ◌-◌, ◌*◌, ◌%◌, Bool, false, cond, not, ◌&&◌, Some, None, Option, ◌==◌, nat_le}
 use Rattle.packet.specs.declared.target.Target.{Target}
 use Rattle.packet.specs.declared.target.Target.TheVariants.{Idle, Broadcast, Short, Long, Basic, Extended}
 use Rattle.state.specs.Bits.{bit_of}

@@ -1,5 +1,5 @@
 -- What the rules come to, in the words of the track.
-use Rattle.std.specs.Prelude.{◌≡◌, ℕ, ◌+◌, ◌-◌, ◌<◌, ◌≤◌, Bool, true, false, cond, ◌&&◌, ◌||◌, ◌⊎◌, List, length, Some, None, Option, ◌≢◌, nat_le, nat_lt, slice_index_or}
+use Rattle.std.specs.Prelude.{◌≡◌, ℕ, ◌+◌, ◌-◌, ◌≤◌, Bool, true, false, cond, ◌&&◌, ◌⊎◌, List, length, Some, None, ◌≢◌, nat_le, nat_lt, slice_index_or}
 use Rattle.packet.specs.declared.instruction.FunctionGroup.{FunctionGroup}
 use Rattle.packet.specs.declared.instruction.FunctionGroup.TheVariants.{F0ToF4, F5ToF8, F9ToF12, F13ToF20, F21ToF28, F29ToF36, F37ToF44, F45ToF52, F53ToF60, F61ToF68}
 use Rattle.packet.specs.declared.instruction.Instruction.{Instruction}
@@ -7,7 +7,6 @@ use Rattle.packet.specs.declared.instruction.Instruction.TheVariants.{NoOperatio
 use Rattle.packet.specs.declared.target.Target.{Target}
 use Rattle.format.specs.Reading.{packet_read}
 use Rattle.state.specs.declared.step.Step.{Step}
-use Rattle.state.specs.declared.volatile.Reply.{Reply}
 use Rattle.state.specs.declared.volatile.Reply.TheVariants as reply
 use Rattle.state.specs.Bits.{bit_of}
 use Rattle.state.specs.Groups.{switched}
@@ -20,7 +19,7 @@ use Rattle.decoder.specs.declared.role.Role.TheVariants as role
 use Rattle.decoder.specs.Accesses.{matches, is_write}
 use Rattle.decoder.specs.Replies.{reply_after}
 use Rattle.decoder.specs.Mobiles.{is_speed, mobile_noted}
-use Rattle.decoder.specs.Alone.{Own, Rules, Event, hearing, live, mobile_rules, basic_rules, extended_rules}
+use Rattle.decoder.specs.Alone.{Own, Rules, hearing, live, mobile_rules, basic_rules, extended_rules}
 use Rattle.decoder.specs.Alone.Event.{heard}
 
 -- of a kind of decoder

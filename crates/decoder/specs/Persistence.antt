@@ -1,5 +1,5 @@
 -- Each bit of a variable is as the last setting or write pair that names it gave it.
-use Rattle.std.specs.Prelude.{◌≡◌, ℕ, ◌%◌, ◌≤◌, Bool, true, false, cond, ◌&&◌, ◌≢◌, List, [], ◌∷◌, reverse, length, Some, None, Option, ◌==◌}
+use Rattle.std.specs.Prelude.{◌≡◌, ℕ, ◌%◌, ◌≤◌, Bool, false, cond, ◌&&◌, ◌≢◌, List, [], ◌∷◌, reverse, length, Some, None, Option, ◌==◌}
 use Rattle.std.specs.List.{AllByRecursion as All}
 use Rattle.std.specs.Str.{bytes_eq}
 use Rattle.packet.specs.declared.instruction.Instruction.{Instruction}
@@ -8,9 +8,6 @@ use Rattle.state.specs.Bits.{bit_of}
 use Rattle.decoder.specs.declared.effect.Access.{Access}
 use Rattle.decoder.specs.declared.effect.Change.{Change}
 use Rattle.decoder.specs.declared.effect.Change.TheVariants.{Byte, Bit}
-use Rattle.decoder.specs.declared.records.Mobile.{Mobile}
-use Rattle.decoder.specs.declared.records.Basic.{Basic}
-use Rattle.decoder.specs.declared.records.Extended.{Extended}
 use Rattle.decoder.specs.declared.role.Role.{Role}
 use Rattle.decoder.specs.Accesses.{access_of, writes_in}
 use Rattle.decoder.specs.Alone.{Own, Rules, Event, variable, hearing, live, life, mobile_rules, basic_rules, extended_rules}

@@ -1,5 +1,5 @@
 -- The definitions that take a list apart, at what a slice pattern says of it. Assumes nothing.
-use Rattle.std.proofs.Common.{◌≡◌, ℕ, ◌+◌, ◌-◌, ◌*◌, ◌%◌, ◌<◌, cond, eqb, ltb, leb, List, ◌∷◌, length, get_or, Ok, Err, sym, ap, ◌∙◌}
+use Rattle.std.proofs.Common.{◌≡◌, ℕ, ◌+◌, ◌-◌, ◌*◌, ◌%◌, ◌<◌, cond, eqb, ltb, leb, List, ◌∷◌, length, get_or, Err, sym, ap, ◌∙◌}
 use Rattle.std.specs.List.{between}
 use Rattle.std.proofs.lemmas.Slice.{first_rest}
 use Rattle.fault.specs.declared.refusal.Refusal.TheVariants.{AccessoryHead, InstructionLength}

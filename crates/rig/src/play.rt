@@ -54,7 +54,7 @@ fn take_all<M: Memory>(
     capture: &Capture,
 ) -> Tally {
     let mut tally = Tally::new();
-    let progress = Progress::new(capture.blocks.len());
+    let progress = Progress::new(rt, capture.blocks.len());
     for (done, block) in capture.blocks.iter().enumerate() {
         // A report that cannot be written is no reason to stop.
         let _ = progress.tell(rt, done);

@@ -1,5 +1,5 @@
 -- A decoder that is named: what is read of it, and a setting.
-use Rattle.std.proofs.Common.{◌≡◌, ℕ, ◌+◌, ◌-◌, ◌*◌, ◌%◌, ◌<◌, ◌≤◌, Bool, true, false, cond, ◌&&◌, eqb, ltb, leb, ◌≢◌, List, [], ◌∷◌, length, get_or, set, Some, None, Ok, Err, Option, Result, sym, refl, ap, ◌∙◌, subst, ap₂, ⊎_elim, arith}
+use Rattle.std.proofs.Common.{◌≡◌, ℕ, ◌-◌, ◌*◌, ◌<◌, ◌≤◌, Bool, true, false, ltb, leb, ◌≢◌, List, [], ◌∷◌, length, get_or, set, Some, None, Err, Result, sym, refl, ap, ◌∙◌, subst, ap₂, ⊎_elim, arith}
 use Rattle.std.proofs.lemmas.List.{get_or_default, set-get_or}
 use Rattle.std.proofs.lemmas.Bool.{cond-true, cond-false, ltb-true, ltb-false, le-leb, lt-leb, and_from, and_left, and_right, cases_Bool, eq-eqb}
 use Rattle.fault.specs.declared.fault.Fault.{Fault}
@@ -12,25 +12,23 @@ use Rattle.state.specs.Starting.{mobile_start, basic_start, extended_start}
 use Rattle.decoder.specs.declared.records.Mobile as mobile-record
 use Rattle.decoder.specs.declared.records.Basic as basic-record
 use Rattle.decoder.specs.declared.records.Extended as extended-record
-use Rattle.decoder.specs.Alone.{Own, own, mobile_rules, basic_rules, extended_rules}
+use Rattle.decoder.specs.Alone.{own, mobile_rules, basic_rules, extended_rules}
 use Rattle.decoder.specs.Alone.Event.{setting}
 use Rattle.bank.specs.declared.kind.Kind.{Kind}
 use Rattle.bank.specs.declared.kind.Kind.TheVariants.{Mobile, Basic, Extended}
-use Rattle.bank.specs.Kinds.{same_kind, is_kind, count_below, count_of, SlotOf}
-use Rattle.bank.specs.Windows.{window, Wrote, has_window}
-use Rattle.bank.specs.Banks.{own_at, Kept, ChangedAt, is_there}
+use Rattle.bank.specs.Kinds.{is_kind, count_below, count_of, SlotOf}
+use Rattle.bank.specs.Windows.{window, Wrote}
+use Rattle.bank.specs.Banks.{ChangedAt}
 use Rattle.bank.proofs.Counts.{count_less, count_apart}
 use Rattle.bank.proofs.Turns.{kept_beyond}
 use Rattle.script.specs.declared.name.DecoderName.{DecoderName}
 use Rattle.script.specs.declared.call.Request.TheVariants.{Set}
-use Rattle.script.specs.Decoders.{Decoder, lives, decoder_of, changed, refused_by, is_variable, cv_of, events_of, on_mobile, variables_of}
+use Rattle.script.specs.Decoders.{Decoder, lives, decoder_of, changed, refused_by, is_variable, cv_of, events_of, variables_of}
 use Rattle.script.specs.Decoders.Decoder.{mobile, basic, extended}
-use Rattle.script.specs.Boards.{Lent, lent, is_lent, decoder_in, decoder_at, decoders, Rest}
+use Rattle.script.specs.Boards.{Lent, lent, decoder_in, decoder_at, decoders, Rest}
 use Rattle.script.specs.Calls.{about, when_lent}
 use Rattle.script.proofs.Lives.{lives_none}
-use Rattle.roster.specs.Mobiles.{of_mobile, MobileNumber}
-use Rattle.roster.proofs.Decks.{is_kind_lem, kind_is, not_two, as_kind, found_at, found_none, changes_at, changes_none, one_changed, get_or-decoders}
-use Rattle.roster.proofs.Sendings.{Enough, enough}
+use Rattle.roster.proofs.Decks.{is_kind_lem, as_kind, found_at, found_none, changes_at, one_changed, get_or-decoders}
 
 -- ---- the number of a variable
 

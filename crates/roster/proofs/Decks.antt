@@ -1,6 +1,6 @@
 -- The decoders in their slots: by name, and after a change of some of them.
-use Rattle.std.proofs.Common.{◌≡◌, ℕ, ◌*◌, ◌<◌, ◌≤◌, Bool, true, false, ◌≢◌, List, map, length, get_or, set, Some, None, sym, refl, ap, ◌∙◌, subst, ⊎_elim, arith}
-use Rattle.std.specs.List.{slice_get, range_with_len}
+use Rattle.std.proofs.Common.{◌≡◌, ℕ, ◌*◌, ◌<◌, ◌≤◌, true, false, ◌≢◌, List, map, length, get_or, set, Some, None, sym, refl, ap, ◌∙◌, subst, ⊎_elim, arith}
+use Rattle.std.specs.List.{slice_get}
 use Rattle.std.proofs.lemmas.List.{same_lists, get_or_default, get_or-map, length-map, length-set, get_or-set_same, get_or-set_other}
 use Rattle.std.proofs.lemmas.List.FromFn.{length-map-range_with_len, get_or-map-range_with_len}
 use Rattle.std.proofs.lemmas.Option.{slice_get-get_or}
@@ -11,10 +11,10 @@ use Rattle.decoder.specs.declared.records.Extended as extended-record
 use Rattle.decoder.specs.Alone.{Own}
 use Rattle.bank.specs.declared.kind.Kind.{Kind}
 use Rattle.bank.specs.declared.kind.Kind.TheVariants.{Mobile, Basic, Extended}
-use Rattle.bank.specs.Kinds.{same_kind, is_kind, count_below, count_of, SlotOf}
+use Rattle.bank.specs.Kinds.{same_kind, is_kind, count_below, SlotOf}
 use Rattle.bank.specs.Banks.{Turned}
 use Rattle.script.specs.declared.name.DecoderName.{DecoderName}
-use Rattle.script.specs.Decoders.{Decoder, kind_of, decoder_of, of_kind, changed}
+use Rattle.script.specs.Decoders.{Decoder, kind_of, decoder_of, changed}
 use Rattle.script.specs.Decoders.Decoder.{mobile, basic, extended}
 use Rattle.script.specs.Boards.{Lent, decoder_in, decoder_at, decoders, Rest}
 use Rattle.script.proofs.Names.{same_is, same_self}

@@ -1,5 +1,5 @@
 -- One packet for all decoders.
-use Rattle.std.proofs.Common.{◌≡◌, ℕ, ◌*◌, ◌<◌, ◌≤◌, Bool, true, false, cond, ◌&&◌, ◌||◌, ltb, leb, List, [], ◌∷◌, map, length, get_or, is_some, is_ok, Some, None, Ok, Err, Option, Result, sym, refl, ap, ◌∙◌, subst, ap₂, ⊎_elim, arith}
+use Rattle.std.proofs.Common.{◌≡◌, ℕ, ◌*◌, ◌<◌, ◌≤◌, Bool, true, false, cond, ◌&&◌, ◌||◌, ltb, leb, List, [], ◌∷◌, map, length, get_or, is_some, is_ok, Some, None, Ok, Err, Option, Result, sym, refl, ap, ◌∙◌, ap₂, ⊎_elim, arith}
 use Rattle.std.proofs.lemmas.Bool.{leb-true, le-leb, and_parts, and_from, cases_Bool, cond-true}
 use Rattle.fault.specs.declared.fault.Fault.{Fault}
 use Rattle.fault.specs.declared.refusal.Refusal.{Refusal}
@@ -26,9 +26,9 @@ use Rattle.bank.proofs.Turns.{after_turned, before_turned, kept_beyond}
 use Rattle.script.specs.Decoders.{Decoder, lives, hears}
 use Rattle.script.specs.Decoders.Decoder.{mobile, basic, extended}
 use Rattle.script.specs.Boards.{Lent, is_lent, decoder_in, decoder_at, decoders, Rest}
-use Rattle.script.specs.Calls.{meets, met, some_hears}
+use Rattle.script.specs.Calls.{met, some_hears}
 use Rattle.script.proofs.Lives.{lives_none}
-use Rattle.roster.proofs.Decks.{is_kind_lem, not_two, all_changed, by_kinds, rest_of}
+use Rattle.roster.proofs.Decks.{is_kind_lem, not_two}
 use Rattle.roster.proofs.Counts.{count_cong, or_false, some_hear}
 
 -- ---- what one decoder does

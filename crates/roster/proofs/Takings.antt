@@ -1,5 +1,5 @@
 -- A block in the middle: the records before the offset o have acted.
-use Rattle.std.proofs.Common.{◌≡◌, ℕ, ◌+◌, ◌<◌, ◌≤◌, Bool, true, false, cond, List, [], ◌∷◌, map, length, Some, None, Ok, Err, Option, Result, sym, refl, ap, ◌∙◌, subst, arith}
+use Rattle.std.proofs.Common.{◌≡◌, ℕ, ◌+◌, ◌<◌, ◌≤◌, Bool, true, false, List, map, length, Some, None, Ok, Err, Result, sym, refl, ap, ◌∙◌, subst, arith}
 use Rattle.fault.specs.declared.fault.Fault.{Fault}
 use Rattle.fault.specs.declared.refusal.Refusal.{Refusal}
 use Rattle.block.specs.declared.records.Carried.{Carried}
@@ -7,7 +7,7 @@ use Rattle.block.specs.Contents.{Thing, Placed, record_at, ends_at, thing_in, pl
 use Rattle.block.specs.Contents.Thing.{fill, power_up, packet}
 use Rattle.block.specs.Reading.{reading, reading_from, carried, fault_of}
 use Rattle.block.proofs.Shapes.{Found, told_as, later, ends_inside}
-use Rattle.block.proofs.Steps.{passing, onward, reads_as, reads_end}
+use Rattle.block.proofs.Steps.{passing, reads_as, reads_end}
 use Rattle.bank.specs.declared.kind.Kind.{Kind}
 use Rattle.script.specs.declared.taken.Taken.{Taken}
 use Rattle.script.specs.Decoders.{Decoder}

@@ -1,8 +1,7 @@
 -- Every decoder is what it is alone.
-use Rattle.std.proofs.Common.{◌≡◌, ℕ, zero, suc, Bool, true, false, cond, List, [], ◌∷◌, ◌++◌, map, length, take, Some, None, Option, sym, refl, ap, ◌∙◌, subst, ap₂, arith}
+use Rattle.std.proofs.Common.{◌≡◌, ℕ, zero, suc, Bool, true, false, cond, List, [], ◌∷◌, map, take, Some, sym, refl, ap, ◌∙◌, arith}
 use Rattle.std.specs.List.{slice_get}
 use Rattle.block.specs.Contents.{Thing}
-use Rattle.decoder.specs.Alone.{Event}
 use Rattle.script.specs.declared.name.DecoderName.{DecoderName}
 use Rattle.script.specs.declared.fit.Fit.{Fit}
 use Rattle.script.specs.declared.fit.Fit.TheVariants as fit

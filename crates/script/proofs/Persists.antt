@@ -12,7 +12,7 @@ use Rattle.script.specs.declared.fit.Fit.{Fit}
 use Rattle.script.specs.declared.fit.Fit.TheVariants.{Mobile, Basic, Extended}
 use Rattle.script.specs.declared.call.Call.{Call}
 use Rattle.script.specs.declared.answer.Answer.{Answer}
-use Rattle.script.specs.Decoders.{Decoder, lives, variables_of}
+use Rattle.script.specs.Decoders.{lives, variables_of}
 use Rattle.script.specs.Boards.{Lent}
 use Rattle.script.specs.Fittings.{fit_kind, fitted}
 use Rattle.script.specs.Promises.{Ran, Persistent, exceptions, last_given, events, alone_after}

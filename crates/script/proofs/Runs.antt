@@ -1,5 +1,5 @@
 -- A whole run keeps all promises. And runs that are one step longer.
-use Rattle.std.proofs.Common.{◌≡◌, List, [], ◌∷◌, ◌++◌, map, sym, refl, ap, ◌∙◌}
+use Rattle.std.proofs.Common.{◌≡◌, List, [], ◌∷◌, ◌++◌, map, refl, ap}
 use Rattle.bank.specs.declared.kind.Kind.{Kind}
 use Rattle.script.specs.declared.fit.Fit.{Fit}
 use Rattle.script.specs.declared.call.Call.{Call}

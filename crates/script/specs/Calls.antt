@@ -9,7 +9,6 @@ use Rattle.block.specs.Contents.Thing.{fill, power_up, packet}
 use Rattle.block.specs.Reading.{reading, carried, fault_of}
 use Rattle.decoder.specs.Alone.{Event}
 use Rattle.decoder.specs.Alone.Event.{heard, powered}
-use Rattle.script.specs.declared.name.DecoderName.{DecoderName}
 use Rattle.script.specs.declared.taken.Taken as taken
 use Rattle.script.specs.declared.call.Request.{Request}
 use Rattle.script.specs.declared.call.Call.{Call}

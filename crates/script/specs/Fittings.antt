@@ -1,8 +1,7 @@
 -- Fitting decoders, one after the other.
-use Rattle.std.specs.Prelude.{ℕ, ◌+◌, ◌*◌, Bool, true, false, cond, ◌&&◌, List, [], ◌∷◌, ◌++◌, map, length, Ok, Err, Option, Result, nat_le, nat_lt}
+use Rattle.std.specs.Prelude.{ℕ, ◌+◌, ◌*◌, Bool, cond, ◌&&◌, List, [], ◌∷◌, ◌++◌, map, length, Ok, Err, Option, Result, nat_le, nat_lt}
 use Rattle.fault.specs.declared.fault.Fault.{Fault}
 use Rattle.fault.specs.declared.refusal.Refusal.TheVariants.{FittedAddress, BankFull, TooFewCells}
-use Rattle.decoder.specs.declared.role.Address.{Address}
 use Rattle.decoder.specs.declared.role.Address.TheVariants.{Short, Long}
 use Rattle.decoder.specs.Fitted.{mobile_fitted, basic_fitted, extended_fitted}
 use Rattle.bank.specs.declared.kind.Kind.{Kind}

@@ -1,5 +1,5 @@
 -- What is promised of a whole run: fittings, the start, then blocks, settings and readings in any order.
-use Rattle.std.specs.Prelude.{◌≡◌, ℕ, Bool, cond, ◌&&◌, List, [], ◌∷◌, ◌++◌, map, reverse, take, Some, Option, ◌==◌}
+use Rattle.std.specs.Prelude.{◌≡◌, ℕ, Bool, cond, ◌&&◌, List, [], ◌∷◌, ◌++◌, map, reverse, take, Some, ◌==◌}
 use Rattle.std.specs.List.{slice_get}
 use Rattle.block.specs.Contents.{Thing}
 use Rattle.state.specs.Bits.{bit_of}

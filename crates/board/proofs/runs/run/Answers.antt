@@ -7,8 +7,8 @@ use Rattle.board.specs.Steps.{FittedTo}
 use Rattle.board.proofs.Scripts.{has_run, all_rest}
 use Rattle.board.proofs.runs.run.Goals as goal
 
-pub perform-all-requires : goal.perform_all-requires
-perform-all-requires g c =
+pub perform_all-requires : goal.perform_all-requires
+perform_all-requires g c =
     let l₁ : Lent = lent c.fit_all.new.mobiles c.fit_all.new.basics c.fit_all.new.extendeds (g.M.Memory.cells c.fit_all.new.memory) (g.M.Memory.outside c.fit_all.new.memory) in
     record { lent = ap (λ ks. is_lent ks l₁) c.start-board.ensures ∙ c.fit_all.ensures.enough; room = omega arith }
 

@@ -1,4 +1,4 @@
-use Rattle.std.proofs.Common.{◌≡◌, Bool, true, length, Some, Err, Result, sym, refl, ap, ◌∙◌, subst, ⊎_elim}
+use Rattle.std.proofs.Common.{◌≡◌, Bool, true, length, Some, Err, Result, sym, ap, ◌∙◌, subst, ⊎_elim}
 use Rattle.fault.specs.declared.fault.Fault.{Fault}
 use Rattle.fault.specs.declared.refusal.Refusal.TheVariants.{NoSuchDecoder}
 use Rattle.decoder.specs.declared.records.Mobile.{Mobile as Mobile-record}

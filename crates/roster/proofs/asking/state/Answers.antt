@@ -1,10 +1,10 @@
-use Rattle.std.proofs.Common.{◌≡◌, ◌<◌, true, length, get_or, Some, Ok, Err, sym, refl, ap, ◌∙◌, subst, rules}
+use Rattle.std.proofs.Common.{◌≡◌, ◌<◌, true, length, Some, Ok, Err, sym, ap, ◌∙◌, subst, rules}
 use Rattle.bank.specs.declared.kind.Kind.TheVariants.{Mobile, Basic, Extended}
 use Rattle.bank.specs.Kinds.{is_kind, SlotOf}
 use Rattle.script.specs.Decoders.{state_of}
 use Rattle.script.specs.Boards.{Lent, lent, is_lent}
 use Rattle.script.specs.Calls.{place_after}
-use Rattle.roster.proofs.Sendings.{Enough, enough}
+use Rattle.roster.proofs.Sendings.{enough}
 use Rattle.roster.proofs.Askings.{lent_is, about_none, about_some, mobile_there, mobile_is, basic_there, basic_is, extended_there, extended_is}
 use Rattle.roster.proofs.asking.state.Given.{Over}
 use Rattle.roster.proofs.asking.state.Goals as goal
@@ -31,8 +31,8 @@ mobile_room g c =
 pub offset_bounds-mobiles-number : goal.offset_bounds-mobiles-number
 offset_bounds-mobiles-number g c = let l = mobile_room g c in search rules
 
-pub bounds-mobiles-number-in-Mobile : goal.bounds-mobiles-number-in-Mobile
-bounds-mobiles-number-in-Mobile g c = mobile_room g c
+pub bounds-mobiles-number : goal.bounds-mobiles-number
+bounds-mobiles-number g c = mobile_room g c
 
 basic_slot : (g : Over) (c : goal.In-Basic g) → SlotOf (is_kind c.args.kinds.now Basic) (length c.args.kinds.now) c.args.decoder.number (Some c.in-Some._slot)
 basic_slot g c = subst (λ k. SlotOf (is_kind c.args.kinds.now k) (length c.args.kinds.now) c.args.decoder.number (Some c.in-Some._slot)) c.in-Basic.is c.in-Some.ensures
@@ -64,8 +64,8 @@ offset_bounds-extendeds-number g c = let l = extended_room g c in search rules
 pub bounds-extendeds-number : goal.bounds-extendeds-number
 bounds-extendeds-number g c = extended_room g c
 
-pub bounds-mobiles-number : goal.bounds-mobiles-number_in-Mobile
-bounds-mobiles-number g c = mobile_room g c
+pub bounds-mobiles-number-in-Mobile : goal.bounds-mobiles-number-in-Mobile
+bounds-mobiles-number-in-Mobile g c = mobile_room g c
 
 pub returns-in-Mobile : goal.returns-in-Mobile
 returns-in-Mobile g c =

@@ -1,7 +1,6 @@
 use Rattle.std.proofs.Common.{◌≡◌, ◌+◌, ◌*◌, true, length, Ok, Err, sym, refl, ap, ◌∙◌, ap₂, arith}
 use Rattle.std.proofs.lemmas.Bool.{cond-true, cond-false, le-leb}
 use Rattle.decoder.specs.Alone.{variable}
-use Rattle.bank.specs.Windows.{window}
 use Rattle.script.specs.Decoders.{variable_in}
 use Rattle.script.specs.Boards.{Lent, lent, is_lent}
 use Rattle.roster.proofs.Sendings.{enough}

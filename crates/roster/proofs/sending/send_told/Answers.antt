@@ -1,4 +1,4 @@
-use Rattle.std.proofs.Common.{◌≡◌, ◌*◌, ◌≤◌, true, ◌||◌, ltb, length, sym, ap, ◌∙◌, ap₂, arith}
+use Rattle.std.proofs.Common.{◌||◌, ltb, sym, ◌∙◌, ap₂, arith}
 use Rattle.block.specs.Contents.Thing.{packet}
 use Rattle.bank.specs.declared.kind.Kind.TheVariants.{Mobile, Basic, Extended}
 use Rattle.script.specs.Boards.{Lent, lent}

@@ -1,4 +1,4 @@
-use Rattle.std.proofs.Common.{◌≡◌, map, sym, refl, ap, ◌∙◌, subst}
+use Rattle.std.proofs.Common.{◌≡◌, map, sym, ap, ◌∙◌}
 use Rattle.block.specs.Contents.{thing_in}
 use Rattle.block.specs.Contents.Thing.{fill, power_up}
 use Rattle.script.specs.Boards.{lent, decoders}

@@ -1,4 +1,4 @@
-use Rattle.std.proofs.Common.{sym, rules}
+use Rattle.std.proofs.Common.{rules}
 use Rattle.packet.proofs.Parities.{parity-append}
 use Rattle.writer.proofs.Places.{packet_put}
 use Rattle.writer.proofs.writing.put.Goals as goal

@@ -1,4 +1,4 @@
-use Rattle.std.proofs.Common.{sym, ap, ◌∙◌}
+use Rattle.std.proofs.Common.{sym, ◌∙◌}
 use Rattle.format.proofs.Placed.{placed_reads}
 use Rattle.writer.proofs.writing.write.Goals as goal
 
