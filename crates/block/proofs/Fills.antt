@@ -2,7 +2,7 @@
 use Rattle.std.proofs.Common.{◌≡◌, ℕ, zero, suc, ◌+◌, ◌<◌, ◌≤◌, cond, eqb, List, [], ◌∷◌, length, get_or, Some, None, Option, sym, refl, ◌∙◌, subst, ⊎_elim, arith}
 use Rattle.std.proofs.lemmas.List.{at_drop_more, at_drop_all}
 use Rattle.std.proofs.lemmas.Bool.{cond-true, cond_both, eq-eqb, eqb-true, eqb-false, cases_lt}
-use Rattle.std.specs.List.{AllByRecursion as All}
+use Rattle.std.specs.List.{AllByRecursion}
 use Rattle.block.specs.Contents.{first_nonzero, first_nonzero_from}
 use Rattle.block.specs.Tiling.{ZeroFrom}
 
@@ -42,7 +42,7 @@ pub looked : (b : List ℕ) (o : ℕ) → Looked b o (first_nonzero_from b o)
 looked b o = looked_from (length b) b o (omega arith)
 
 -- in zero bytes it finds none
-pub nonzero_none : (o : ℕ) (xs : List ℕ) → All (λ x. x ≡ 0) xs → first_nonzero o xs ≡ None
+pub nonzero_none : (o : ℕ) (xs : List ℕ) → AllByRecursion (λ x. x ≡ 0) xs → first_nonzero o xs ≡ None
 unfolding first_nonzero
 nonzero_none o [] h = refl
 nonzero_none o (x ∷ xs) h = cond-true _ _ _ (eq-eqb x 0 h.0) ∙ nonzero_none (o + 1) xs h.1

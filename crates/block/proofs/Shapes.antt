@@ -61,7 +61,7 @@ shape o k xs =
     cond_both (ltb (length xs) k) _ _ (Shape o k xs) (λ s. inr (inl (record { is = refl; low = low; high = high; short = ltb-true (length xs) k s }))) (λ w. whole k xs low high (ltb-false (length xs) k w)))
     (λ np. inl (record { is = refl; not_fill = eqb-false k 0 nz; not_power_up = eqb-false k 16 nu; not_packet = not_packet_lem k np }))))
 
--- of the record that `recordAt` says
+-- of the record that `record_at` says
 pub record Found (b : List ℕ) (o : ℕ) (p : Placed) : Type 0 where
   pub inside : o < length b
   pub is : p ≡ record { from = o; thing = p.thing; up_to = ends_at b o p.thing }

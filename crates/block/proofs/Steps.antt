@@ -22,7 +22,7 @@ passing b o fill next = filled o
 passing b o power_up next = more o power_up (reading_from b next)
 passing b o (packet p) next = more o (packet p) (reading_from b next)
 
--- how it goes on at o, where `recordAt` says r
+-- how it goes on at o, where `record_at` says r
 abbrev pub onward : List ℕ → ℕ → Result (Option Placed) Fault → Reading
 onward b o (Ok None) = done
 onward b o (Ok (Some p)) = passing b o p.thing p.up_to

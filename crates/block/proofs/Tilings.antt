@@ -2,7 +2,7 @@
 use Rattle.std.proofs.Common.{◌≡◌, ℕ, zero, suc, ◌+◌, ◌<◌, ◌≤◌, true, false, List, [], ◌∷◌, length, get_or, take, drop, Some, None, Ok, Err, Result, sym, refl, ap, ◌∙◌, subst, inl, inr, ⊎_elim, arith, length-drop}
 use Rattle.std.proofs.lemmas.List.{drop_more}
 use Rattle.std.proofs.lemmas.Bool.{cases_lt, cond-true, cond-false, eq-eqb}
-use Rattle.std.specs.List.{AllByRecursion as All}
+use Rattle.std.specs.List.{AllByRecursion}
 use Rattle.fault.specs.declared.fault.Fault.{Fault}
 use Rattle.fault.specs.declared.refusal.Refusal.TheVariants.{BlockLength}
 use Rattle.block.specs.Contents.{Thing, fault_at, is_block_length, first_nonzero_from, fill_unless, thing_of, placed}
@@ -77,12 +77,12 @@ sound_from (suc n) b o h low =
 pub sound : (b : List ℕ) → Sound b 0 (reading b)
 sound b = sound_from (length b) b 0 (omega arith) (omega arith)
 
-fill_reads : (b : List ℕ) → 0 < length b → get_or b 0 0 ≡ 0 → All (λ x. x ≡ 0) (drop 1 b) → reading b ≡ filled 0
+fill_reads : (b : List ℕ) → 0 < length b → get_or b 0 0 ≡ 0 → AllByRecursion (λ x. x ≡ 0) (drop 1 b) → reading b ≡ filled 0
 fill_reads b lt here rest =
     let is : thing_of 0 (get_or b 0 0) (drop 1 b) ≡ Ok fill = cond-true _ _ _ (eq-eqb (get_or b 0 0) 0 here) ∙ ap fill_unless (nonzero_none 1 (drop 1 b) rest) in
     reads_on b 0 lt ∙ ap (λ r. onward b 0 (placed b 0 r)) is
 
-fill_carries_none : (b : List ℕ) → All (λ x. x ≡ 0) b → (carried (reading b) ≡ []) × (fault_of (reading b) ≡ None)
+fill_carries_none : (b : List ℕ) → AllByRecursion (λ x. x ≡ 0) b → (carried (reading b) ≡ []) × (fault_of (reading b) ≡ None)
 fill_carries_none [] h = let e = reads_end [] 0 (omega arith) in (ap carried e, ap fault_of e)
 fill_carries_none (x ∷ xs) h = let e = fill_reads (x ∷ xs) (omega arith) h.0 h.1 in (ap carried e, ap fault_of e)
 

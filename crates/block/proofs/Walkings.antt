@@ -64,7 +64,7 @@ module _ (b : List ℕ) (o : ℕ) (s t : Walk) (over : walked s ≡ b) (at : sta
 abbrev items_from : List ℕ → ℕ → List (Result Placed Fault)
 items_from b o = items_of b (reading_from b o)
 
--- those at a place where `recordAt` says r
+-- those at a place where `record_at` says r
 abbrev items_by : List ℕ → Result (Option Placed) Fault → List (Result Placed Fault)
 items_by b (Ok None) = []
 items_by b (Ok (Some p)) = Ok p ∷ items_from b p.up_to
@@ -100,7 +100,7 @@ never_some y e = let z : ◌≡◌ {A = ℕ} 0 1 = cc in omega arith
 same_item : (x : Result Carried Fault) (y : Result Placed Fault) → given_in (Some x) ≡ Some y → item_in x ≡ y
 same_item x y e = cc
 
--- where `recordAt` says r at s
+-- where `record_at` says r at s
 gives_by : (s : Walk) (r : Result (Option Placed) Fault) → record_at (walked s) (stands_at s) ≡ r → Told (walked s) (stands_at s) r → ((j : Walk) → walked j ≡ walked s → stands_at s < stands_at j → AlwaysYields Advances item_in j (items_left j)) → AlwaysYields Advances item_in s (items_by (walked s) r)
 gives_by s (Ok None) e h on = λ x j a. never_none x (a.item ∙ ap item_of e)
 gives_by s (Ok (Some p)) e h on = (

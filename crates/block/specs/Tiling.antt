@@ -1,6 +1,6 @@
 -- What a survey tells of the block itself.
 use Rattle.std.specs.Prelude.{◌≡◌, ℕ, ◌+◌, ◌<◌, ◌≤◌, ◌⊎◌, List, [], ◌∷◌, length, take, drop, Some, None, Ok, Err, Option, Result, slice_index, slice_index_or}
-use Rattle.std.specs.List.{AllByRecursion as All}
+use Rattle.std.specs.List.{AllByRecursion}
 use Rattle.fault.specs.declared.fault.Fault.{Fault}
 use Rattle.fault.specs.declared.refusal.Refusal.TheVariants.{UnknownKind, BodyCutOff, NonzeroFill}
 use Rattle.block.specs.declared.summary.Survey.{Survey}
@@ -78,4 +78,4 @@ CountsNothing (Err e) = Unit {0}
 
 -- a block of only zero bytes, however long, carries nothing and has no fault, and no survey counts anything in it
 abbrev pub FillIsNothing : List ℕ → Result Survey Fault → Type 0
-FillIsNothing b r = All (λ x. x ≡ 0) b → (carried (reading b) ≡ []) × (fault_of (reading b) ≡ None) × CountsNothing r
+FillIsNothing b r = AllByRecursion (λ x. x ≡ 0) b → (carried (reading b) ≡ []) × (fault_of (reading b) ≡ None) × CountsNothing r

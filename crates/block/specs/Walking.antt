@@ -22,7 +22,7 @@ abbrev pub Begins : List ℕ → Result Walk Fault → Type 0
 Begins b (Ok w) = (is_block_length (length b) ≡ true) × (walked w ≡ b) × (stands_at w ≡ 0)
 Begins b (Err e) = (is_block_length (length b) ≡ false) × (e ≡ fault_at BlockLength 0)
 
--- the item that a call gives at a place where `recordAt` says r
+-- the item that a call gives at a place where `record_at` says r
 abbrev pub item_of : Result (Option Placed) Fault → Option (Result Placed Fault)
 item_of (Ok None) = None
 item_of (Ok (Some p)) = Some (Ok p)

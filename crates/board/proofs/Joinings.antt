@@ -1,7 +1,7 @@
 -- One decoder more at the end of the slots.
-use Rattle.std.proofs.Common.{◌≡◌, ℕ, ◌+◌, ◌*◌, ◌<◌, ◌≤◌, Bool, true, false, cond, ◌&&◌, ltb, leb, ◌≢◌, List, [], ◌∷◌, ◌++◌, map, length, get_or, set, Ok, Err, sym, refl, ap, ◌∙◌, subst, ap₂, arith}
+use Rattle.std.proofs.Common.{◌≡◌, ℕ, ◌+◌, ◌*◌, ◌<◌, ◌≤◌, Bool, true, false, cond, ◌&&◌, ltb, leb, List, [], ◌∷◌, ◌++◌, map, length, get_or, set, Ok, Err, sym, refl, ap, ◌∙◌, subst, ap₂, arith}
 use Rattle.std.specs.List.{range_with_len}
-use Rattle.std.proofs.lemmas.List.{same_lists, get_or_append_left, get_or_push, length_push, length-set, get_or-set_same, get_or-set_other, get_or_past}
+use Rattle.std.proofs.lemmas.List.{same_lists, get_or_append_left, get_or_push, length_push, length-set, get_or-set_same, get_or-set_other}
 use Rattle.std.proofs.lemmas.List.FromFn.{length-map-range_with_len, get_or-map-range_with_len, map-range_with_len_more}
 use Rattle.std.proofs.lemmas.Bool.{ltb-true, leb-true, le-leb, and_parts, and_from, eq-eqb}
 use Rattle.fault.specs.declared.refusal.Refusal.TheVariants.{FittedAddress, BankFull, TooFewCells}
@@ -11,24 +11,23 @@ use Rattle.decoder.specs.declared.records.Mobile as mobile-record
 use Rattle.decoder.specs.declared.records.Basic as basic-record
 use Rattle.decoder.specs.declared.records.Extended as extended-record
 use Rattle.decoder.specs.declared.role.Address.{Address}
-use Rattle.decoder.specs.Alone.{Own, own}
+use Rattle.decoder.specs.Alone.{own}
 use Rattle.decoder.specs.Fitted.{mobile_fitted, basic_fitted, extended_fitted}
 use Rattle.bank.specs.declared.kind.Kind.{Kind}
 use Rattle.bank.specs.declared.kind.Kind.TheVariants.{Mobile, Basic, Extended}
 use Rattle.bank.specs.Kinds.{same_kind, is_kind, count_below, count_of}
 use Rattle.bank.specs.Windows.{window, Wrote}
-use Rattle.bank.specs.Banks.{has_records}
-use Rattle.bank.proofs.Counts.{count_more, count_less, count_mono}
+use Rattle.bank.proofs.Counts.{count_more, count_less}
 use Rattle.bank.proofs.Turns.{kept_beyond}
 use Rattle.script.specs.declared.fit.Fit.{Fit}
 use Rattle.script.specs.declared.fit.Fit.TheVariants as fits
 use Rattle.script.specs.Decoders.{Decoder, refused_by}
 use Rattle.script.specs.Decoders.Decoder.{mobile, basic, extended}
-use Rattle.script.specs.Boards.{Lent, lent, bank_size, is_lent, decoder_in, decoder_at, decoders, Rest}
-use Rattle.script.specs.Fittings.{fit_kind, fitted, is_address, fitting_in, fitting}
-use Rattle.script.proofs.Names.{same_is, same_self}
+use Rattle.script.specs.Boards.{Lent, lent, is_lent, decoder_in, decoder_at, decoders}
+use Rattle.script.specs.Fittings.{fit_kind, is_address, fitting_in}
+use Rattle.script.proofs.Names.{same_self}
 use Rattle.roster.proofs.Counts.{count_cong}
-use Rattle.roster.proofs.Sendings.{Enough, enough}
+use Rattle.roster.proofs.Sendings.{enough}
 use Rattle.roster.proofs.Decks.{is_kind_lem}
 use Rattle.board.specs.Slots.{AddedAs}
 use Rattle.board.specs.Joins.{Joined}

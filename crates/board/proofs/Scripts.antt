@@ -1,5 +1,5 @@
 -- One fitting after another, and one call after another.
-use Rattle.std.proofs.Common.{◌≡◌, ℕ, ◌+◌, ◌*◌, ◌<◌, ◌≤◌, Bool, true, cond, List, [], ◌∷◌, ◌++◌, map, length, get_or, take, drop, set, Ok, Err, Result, sym, refl, ap, ◌∙◌, subst, ap₂, arith}
+use Rattle.std.proofs.Common.{◌≡◌, ℕ, ◌+◌, ◌<◌, true, cond, List, [], ◌∷◌, ◌++◌, map, length, get_or, take, drop, set, Ok, Err, Result, sym, refl, ap, ◌∙◌, subst, ap₂, arith}
 use Rattle.std.proofs.lemmas.List.{take_more, take_more_set, drop-drop, drop-set-lt, take_all, map_push, length_push}
 use Rattle.std.proofs.lemmas.Bool.{cond-true}
 use Rattle.fault.specs.declared.fault.Fault.{Fault}
@@ -25,9 +25,9 @@ use Rattle.script.proofs.Runs.{accepted_more, fit_answers_more, after_more, answ
 use Rattle.roster.proofs.Decks.{rest_none, rest_then}
 use Rattle.roster.proofs.Sendings.{still_lent}
 use Rattle.board.specs.Slots.{Added}
-use Rattle.board.specs.Joins.{Joined, Joins}
+use Rattle.board.specs.Joins.{Joins}
 use Rattle.board.specs.Steps.{FittedTo, PerformedTo}
-use Rattle.board.proofs.Joinings.{has_room, count_grows, is_lent_lem, no_kinds, join_mobile, join_basic, join_extended}
+use Rattle.board.proofs.Joinings.{has_room, count_grows, no_kinds, join_mobile, join_basic, join_extended}
 
 -- ---- one fitting
 

@@ -1,6 +1,6 @@
 -- Each bit of a variable is as the last setting or write pair that names it gave it.
 use Rattle.std.specs.Prelude.{◌≡◌, ℕ, ◌%◌, ◌≤◌, Bool, false, cond, ◌&&◌, ◌≢◌, List, [], ◌∷◌, reverse, length, Some, None, Option, ◌==◌}
-use Rattle.std.specs.List.{AllByRecursion as All}
+use Rattle.std.specs.List.{AllByRecursion}
 use Rattle.std.specs.Str.{bytes_eq}
 use Rattle.packet.specs.declared.instruction.Instruction.{Instruction}
 use Rattle.format.specs.Reading.{packet_read}
@@ -24,7 +24,7 @@ accessory_exceptions = 519 ∷ 520 ∷ []
 pub record Ordinary (exceptions : List ℕ) (n : ℕ) : Type 0 where
   pub least : 1 ≤ n
   pub most : n ≤ 1024
-  pub not_excepted : All (λ e. n ≢ e) exceptions
+  pub not_excepted : AllByRecursion (λ e. n ≢ e) exceptions
 
 -- the value that a change gives to bit b, if it names it: a byte names all bits of the variable
 abbrev pub changes : ℕ → Change → Option Bool

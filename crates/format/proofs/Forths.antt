@@ -2,13 +2,13 @@
 use Rattle.std.proofs.Common.{◌≡◌, ℕ, ◌%◌, ◌<◌, ◌≤◌, List, [], ◌∷◌, Ok, sym, refl, ◌∙◌, ⊎_elim, arith}
 use Rattle.std.proofs.lemmas.Bool.{cases_eq, cases_lt}
 use Rattle.std.proofs.lemmas.Bool.Decides.{nat_tests}
-use Rattle.std.specs.List.{AllByRecursion as All}
+use Rattle.std.specs.List.{AllByRecursion}
 use Rattle.packet.specs.declared.instruction.Instruction.{Instruction}
 use Rattle.format.specs.Reading.{mobile, cv_access, basic, extended}
 use Rattle.format.specs.Writing.Form.{nothing, mobile_only, anyone, output, aspect}
 use Rattle.format.specs.Writing.{Form, form_of, cv_body, mobile_body, basic_body, extended_body, output_bits}
 
-pub access_forth : (bs : List ℕ) → All (λ b. b < 256) bs → (i : Instruction) → cv_access bs ≡ Ok i → (cv_body (form_of i) ≡ Ok bs)
+pub access_forth : (bs : List ℕ) → AllByRecursion (λ b. b < 256) bs → (i : Instruction) → cv_access bs ≡ Ok i → (cv_body (form_of i) ≡ Ok bs)
 unfolding cv_access
 access_forth [] h i e = grind (arith, nat_tests)
 access_forth (b ∷ []) h i e = grind (arith, nat_tests)
@@ -29,16 +29,16 @@ mobile_access : (b c d : ℕ) (i : Instruction) → (b ≡ 0xc0 → ⊥) → mob
 unfolding mobile cv_access
 mobile_access b c d i n e = grind (arith, nat_tests)
 
-long_state : (b c d : ℕ) → All (λ x. x < 256) (b ∷ c ∷ d ∷ []) → (i : Instruction) → b ≡ 0xc0 → mobile (b ∷ c ∷ d ∷ []) ≡ Ok i → mobile_body (form_of i) ≡ Ok (b ∷ c ∷ d ∷ [])
+long_state : (b c d : ℕ) → AllByRecursion (λ x. x < 256) (b ∷ c ∷ d ∷ []) → (i : Instruction) → b ≡ 0xc0 → mobile (b ∷ c ∷ d ∷ []) ≡ Ok i → mobile_body (form_of i) ≡ Ok (b ∷ c ∷ d ∷ [])
 unfolding mobile
 long_state b c d h i q e = grind (arith, nat_tests)
 
 -- of two bytes: consist and speed in 126 steps, then functions, binary state and adjustments
-two_low : (b c : ℕ) → All (λ x. x < 256) (b ∷ c ∷ []) → (i : Instruction) → b < 0x40 → mobile (b ∷ c ∷ []) ≡ Ok i → mobile_body (form_of i) ≡ Ok (b ∷ c ∷ [])
+two_low : (b c : ℕ) → AllByRecursion (λ x. x < 256) (b ∷ c ∷ []) → (i : Instruction) → b < 0x40 → mobile (b ∷ c ∷ []) ≡ Ok i → mobile_body (form_of i) ≡ Ok (b ∷ c ∷ [])
 unfolding mobile
 two_low b c h i l e = grind (arith, nat_tests)
 
-two_high : (b c : ℕ) → All (λ x. x < 256) (b ∷ c ∷ []) → (i : Instruction) → 0x40 ≤ b → mobile (b ∷ c ∷ []) ≡ Ok i → mobile_body (form_of i) ≡ Ok (b ∷ c ∷ [])
+two_high : (b c : ℕ) → AllByRecursion (λ x. x < 256) (b ∷ c ∷ []) → (i : Instruction) → 0x40 ≤ b → mobile (b ∷ c ∷ []) ≡ Ok i → mobile_body (form_of i) ≡ Ok (b ∷ c ∷ [])
 unfolding mobile
 two_high b c h i l e = grind (arith, nat_tests)
 
@@ -58,7 +58,7 @@ four_read : (b c d f : ℕ) (bs : List ℕ) (i : Instruction) → mobile (b ∷ 
 unfolding mobile
 four_read b c d f bs i e = grind (arith, nat_tests)
 
-pub mobile_forth : (bs : List ℕ) → All (λ b. b < 256) bs → (i : Instruction) → mobile bs ≡ Ok i → mobile_body (form_of i) ≡ Ok bs
+pub mobile_forth : (bs : List ℕ) → AllByRecursion (λ b. b < 256) bs → (i : Instruction) → mobile bs ≡ Ok i → mobile_body (form_of i) ≡ Ok bs
 mobile_forth [] h i e = absurd (none_read i e)
 mobile_forth (b ∷ []) h i e = ⊎_elim (λ l. one_low b i l e) (λ l. one_high b i l e) (cases_lt b 0x40)
 mobile_forth (b ∷ c ∷ []) h i e = ⊎_elim (λ l. two_low b c h i l e) (λ l. two_high b c h i l e) (cases_lt b 0x40)
@@ -83,7 +83,7 @@ cv_extended (aspect number) bs e = grind (arith, nat_tests)
 basic_access : (head b : ℕ) (bs : List ℕ) (i : Instruction) → basic head (b ∷ bs) ≡ Ok i → (head % 16 ≡ 0) × (cv_access (b ∷ bs) ≡ Ok i)
 basic_access head b bs i e = grind (arith, nat_tests)
 
-pub basic_forth : (head : ℕ) (bs : List ℕ) → All (λ b. b < 256) bs → (i : Instruction) → basic head bs ≡ Ok i → (basic_body (form_of i) ≡ Ok bs) × (output_bits (form_of i) ≡ head % 16)
+pub basic_forth : (head : ℕ) (bs : List ℕ) → AllByRecursion (λ b. b < 256) bs → (i : Instruction) → basic head bs ≡ Ok i → (basic_body (form_of i) ≡ Ok bs) × (output_bits (form_of i) ≡ head % 16)
 basic_forth head [] h i e = grind (arith, nat_tests)
 basic_forth head (b ∷ bs) h i e =
     let p = basic_access head b bs i e in
@@ -99,7 +99,7 @@ extended_access : (b : ℕ) (bs : List ℕ) (i : Instruction) → 0x20 ≤ b →
 unfolding extended
 extended_access b bs i l e = grind (arith, nat_tests)
 
-pub extended_forth : (bs : List ℕ) → All (λ b. b < 256) bs → (i : Instruction) → extended bs ≡ Ok i → extended_body (form_of i) ≡ Ok bs
+pub extended_forth : (bs : List ℕ) → AllByRecursion (λ b. b < 256) bs → (i : Instruction) → extended bs ≡ Ok i → extended_body (form_of i) ≡ Ok bs
 unfolding extended
 extended_forth [] h i e = grind (arith, nat_tests)
 extended_forth (b ∷ bs) h i e =

@@ -4,13 +4,13 @@ use Rattle.std.proofs.ByRecursion.{All-take}
 use Rattle.packet.specs.Parity.{parity}
 use Rattle.std.proofs.lemmas.Bool.{cases_lt, cases_Bool, cond-true, cond-false, eq-eqb, ne_eqb, lt-ltb, le-ltb}
 use Rattle.std.proofs.lemmas.Bool.Decides.{nat_tests}
-use Rattle.std.specs.List.{AllByRecursion as All}
+use Rattle.std.specs.List.{AllByRecursion}
 use Rattle.fault.specs.declared.refusal.Refusal.{Refusal}
 use Rattle.fault.specs.declared.refusal.Refusal.TheVariants.{PacketLength, ErrorByte, ReservedAddress, AdvancedFormat, IdleForm, NoInstruction, AccessoryHead}
 use Rattle.packet.specs.declared.target.Target.{Target}
 use Rattle.packet.specs.declared.target.Target.TheVariants.{Broadcast, Short, Long, Basic, Extended}
 use Rattle.format.specs.Reading.{Asked, Told, told, by_first, mobile, cv_access, basic, extended, basic_address, extended_address, is_extended_head, idle, long, accessory, addressed, front, packet_read}
-use Rattle.format.specs.Refusing.{Cause, within, byte, first_of, refusal_in, mobile_causes, basic_causes, extended_causes, accessory_causes, address_causes, causes}
+use Rattle.format.specs.Refusing.{Cause, within, byte, first_cause, refusal_in, mobile_causes, basic_causes, extended_causes, accessory_causes, address_causes, causes}
 
 abbrev refusal_of : Asked → Option Refusal
 refusal_of (Ok i) = None
@@ -21,7 +21,7 @@ told_refused t (Ok i) = refl
 told_refused t (Err e) = refl
 
 abbrev Mobile : ℕ → List ℕ → Type 0
-Mobile b bs = refusal_of (by_first b bs) ≡ first_of (mobile_causes (b ∷ bs))
+Mobile b bs = refusal_of (by_first b bs) ≡ first_cause (mobile_causes (b ∷ bs))
 
 control : (b : ℕ) (bs : List ℕ) → b < 0x10 → Mobile b bs
 control b [] l = grind (arith, nat_tests)
@@ -82,11 +82,11 @@ by_first_lem b bs h =
     ⊎_elim (long_forms b bs l) (λ l. adjustments b bs l h)
     (cases_lt b 0xf0)) (cases_lt b 0xe0)) (cases_lt b 0xd8)) (cases_lt b 0xc0)) (cases_lt b 0x80)) (cases_lt b 0x40)) (cases_lt b 0x10)
 
-mobile_refused : (b : ℕ) (bs : List ℕ) → b < 256 → refusal_of (mobile (b ∷ bs)) ≡ first_of (mobile_causes (b ∷ bs))
+mobile_refused : (b : ℕ) (bs : List ℕ) → b < 256 → refusal_of (mobile (b ∷ bs)) ≡ first_cause (mobile_causes (b ∷ bs))
 unfolding mobile
 mobile_refused b bs h = by_first_lem b bs h
 
-basic_refused : (head : ℕ) (is : List ℕ) → All (λ x. x < 256) is → refusal_of (basic head is) ≡ first_of (basic_causes head is)
+basic_refused : (head : ℕ) (is : List ℕ) → AllByRecursion (λ x. x < 256) is → refusal_of (basic head is) ≡ first_cause (basic_causes head is)
 unfolding cv_access
 basic_refused head [] h = grind (arith, nat_tests)
 basic_refused head (b ∷ []) h = grind (arith, nat_tests)
@@ -94,7 +94,7 @@ basic_refused head (b ∷ c ∷ []) h = grind (arith, nat_tests)
 basic_refused head (b ∷ c ∷ d ∷ []) h = grind (arith, nat_tests)
 basic_refused head (b ∷ c ∷ d ∷ f ∷ bs) h = grind (arith, nat_tests)
 
-extended_refused : (is : List ℕ) → All (λ x. x < 256) is → refusal_of (extended is) ≡ first_of (extended_causes is)
+extended_refused : (is : List ℕ) → AllByRecursion (λ x. x < 256) is → refusal_of (extended is) ≡ first_cause (extended_causes is)
 unfolding cv_access extended
 extended_refused [] h = grind (arith, nat_tests)
 extended_refused (b ∷ []) h = grind (arith, nat_tests)
@@ -103,11 +103,11 @@ extended_refused (b ∷ c ∷ d ∷ []) h = grind (arith, nat_tests)
 extended_refused (b ∷ c ∷ d ∷ f ∷ bs) h = grind (arith, nat_tests)
 
 abbrev Addressed : List ℕ → Type 0
-Addressed xs = refusal_in (addressed xs) ≡ first_of (address_causes xs)
+Addressed xs = refusal_in (addressed xs) ≡ first_cause (address_causes xs)
 
 -- the answer is r for a target, and the causes are those of r
-joined : (xs : List ℕ) (t : Target) (r : Asked) (cs : List Cause) → addressed xs ≡ told t r → refusal_of r ≡ first_of cs → address_causes xs ≡ cs → Addressed xs
-joined xs t r cs e f g = ap refusal_in e ∙ told_refused t r ∙ f ∙ sym (ap first_of g)
+joined : (xs : List ℕ) (t : Target) (r : Asked) (cs : List Cause) → addressed xs ≡ told t r → refusal_of r ≡ first_cause cs → address_causes xs ≡ cs → Addressed xs
+joined xs t r cs e f g = ap refusal_in e ∙ told_refused t r ∙ f ∙ sym (ap first_cause g)
 
 broadcast_told : (b : ℕ) (bs : List ℕ) → b < 1 → addressed (b ∷ bs) ≡ told Broadcast (mobile bs)
 unfolding addressed
@@ -147,12 +147,12 @@ no_instruction : refusal_of (mobile []) ≡ Some NoInstruction
 unfolding mobile
 no_instruction = refl
 
-long_refused : (b d : ℕ) (bs : List ℕ) → All (λ x. x < 256) bs → 0xc0 ≤ b → b < 0xe8 → Addressed (b ∷ d ∷ bs)
+long_refused : (b d : ℕ) (bs : List ℕ) → AllByRecursion (λ x. x < 256) bs → 0xc0 ≤ b → b < 0xe8 → Addressed (b ∷ d ∷ bs)
 long_refused b d [] a l m = joined _ _ _ _ (long-mobile b d [] l m) no_instruction (long-causes b d [] l m)
 long_refused b d (c ∷ bs) a l m =
     let n : eqb (length (b ∷ d ∷ c ∷ bs)) 2 ≡ false = ne_eqb (length (b ∷ d ∷ c ∷ bs)) 2 (λ e. omega arith) in
     joined _ _ _ _ (long-mobile b d (c ∷ bs) l m)
-    (mobile_refused c bs a.0 ∙ sym (cond-false (eqb (length (b ∷ d ∷ c ∷ bs)) 2) (Some NoInstruction) (first_of (mobile_causes (c ∷ bs))) n))
+    (mobile_refused c bs a.0 ∙ sym (cond-false (eqb (length (b ∷ d ∷ c ∷ bs)) 2) (Some NoInstruction) (first_cause (mobile_causes (c ∷ bs))) n))
     (long-causes b d (c ∷ bs) l m)
 
 accessory-told : (b d : ℕ) (bs : List ℕ) → 0x80 ≤ b → b < 0xc0 → addressed (b ∷ d ∷ bs) ≡ cond (leb 0x80 d) (told (Basic (basic_address b d)) (basic d bs)) (cond (is_extended_head d) (told (Extended (extended_address b d)) (extended bs)) (Err AccessoryHead))
@@ -164,7 +164,7 @@ accessory-causes b d bs l m =
     let w : within 0x80 0xbf b ≡ true = grind (arith, nat_tests) in
     cond-false (ltb b 0x80) _ _ (le-ltb b 0x80 l) ∙ cond-true (within 0x80 0xbf b) _ _ w
 
-accessory_refused : (b d : ℕ) (bs : List ℕ) → All (λ x. x < 256) bs → 0x80 ≤ b → b < 0xc0 → Addressed (b ∷ d ∷ bs)
+accessory_refused : (b d : ℕ) (bs : List ℕ) → AllByRecursion (λ x. x < 256) bs → 0x80 ≤ b → b < 0xc0 → Addressed (b ∷ d ∷ bs)
 accessory_refused b d bs a l m = ⊎_elim is_basic (λ n. ⊎_elim (is_extended n) (is_neither n) (cases_Bool (is_extended_head d))) (cases_Bool (leb 0x80 d))
   where
     is_basic : leb 0x80 d ≡ true → Addressed (b ∷ d ∷ bs)
@@ -178,7 +178,7 @@ accessory_refused b d bs a l m = ⊎_elim is_basic (λ n. ⊎_elim (is_extended 
     is_neither : leb 0x80 d ≡ false → is_extended_head d ≡ false → Addressed (b ∷ d ∷ bs)
     is_neither n x =
         ap refusal_in (accessory-told b d bs l m ∙ cond-false (leb 0x80 d) _ _ n ∙ cond-false (is_extended_head d) _ _ x)
-        ∙ sym (ap first_of (accessory-causes b d bs l m ∙ cond-false (leb 0x80 d) _ _ n ∙ cond-false (is_extended_head d) _ _ x))
+        ∙ sym (ap first_cause (accessory-causes b d bs l m ∙ cond-false (leb 0x80 d) _ _ n ∙ cond-false (is_extended_head d) _ _ x))
 
 -- E8 to FF
 last_told : (b d : ℕ) (bs : List ℕ) → 0xe8 ≤ b → addressed (b ∷ d ∷ bs) ≡ cond (ltb b 0xfd) (Err ReservedAddress) (cond (ltb b 0xff) (Err AdvancedFormat) (idle (d ∷ bs)))
@@ -193,21 +193,21 @@ last_causes_lem b bs l =
     let w : within 0xc0 0xe7 b ≡ false = grind (arith, nat_tests) in
     later_causes b bs (omega arith) ∙ cond-false (within 0xc0 0xe7 b) _ _ w
 
-last_same : (b d : ℕ) (bs : List ℕ) → b < 256 → 0xe8 ≤ b → refusal_in (cond (ltb b 0xfd) (Err ReservedAddress) (cond (ltb b 0xff) (Err AdvancedFormat) (idle (d ∷ bs)))) ≡ first_of (last_causes (b ∷ d ∷ bs))
+last_same : (b d : ℕ) (bs : List ℕ) → b < 256 → 0xe8 ≤ b → refusal_in (cond (ltb b 0xfd) (Err ReservedAddress) (cond (ltb b 0xff) (Err AdvancedFormat) (idle (d ∷ bs)))) ≡ first_cause (last_causes (b ∷ d ∷ bs))
 last_same b d [] h l = grind (arith, nat_tests)
 last_same b d (c ∷ bs) h l = grind (arith, nat_tests)
 
 last_refused : (b d : ℕ) (bs : List ℕ) → b < 256 → 0xe8 ≤ b → Addressed (b ∷ d ∷ bs)
-last_refused b d bs h l = ap refusal_in (last_told b d bs l) ∙ last_same b d bs h l ∙ sym (ap first_of (last_causes_lem b (d ∷ bs) l))
+last_refused b d bs h l = ap refusal_in (last_told b d bs l) ∙ last_same b d bs h l ∙ sym (ap first_cause (last_causes_lem b (d ∷ bs) l))
 
-addressed_refused : (b d : ℕ) (bs : List ℕ) → All (λ x. x < 256) (b ∷ d ∷ bs) → Addressed (b ∷ d ∷ bs)
+addressed_refused : (b d : ℕ) (bs : List ℕ) → AllByRecursion (λ x. x < 256) (b ∷ d ∷ bs) → Addressed (b ∷ d ∷ bs)
 addressed_refused b d bs a =
     ⊎_elim (short_refused b d bs a.1.0) (λ l.
     ⊎_elim (accessory_refused b d bs a.1.1 l) (λ l.
     ⊎_elim (long_refused b d bs a.1.1 l) (last_refused b d bs a.0)
     (cases_lt b 0xe8)) (cases_lt b 0xc0)) (cases_lt b 0x80)
 
-two_up : (xs : List ℕ) → 2 ≤ length xs → All (λ x. x < 256) xs → Addressed xs
+two_up : (xs : List ℕ) → 2 ≤ length xs → AllByRecursion (λ x. x < 256) xs → Addressed xs
 two_up [] l a = absurd (omega arith)
 two_up (b ∷ []) l a = absurd (omega arith)
 two_up (b ∷ d ∷ bs) l a = addressed_refused b d bs a
@@ -220,7 +220,7 @@ outer :
     ≡ cond (not (within 3 6 n)) (Some PacketLength) (cond (not (eqb x 0)) (Some ErrorByte) o)
 outer n x r o h = ⊎_elim (λ l. grind (arith, nat_tests)) (λ l. let e = h l in grind (arith, nat_tests)) (cases_lt n 3)
 
-pub reading_refused : (bs : List ℕ) → All (λ x. x < 256) bs → refusal_in (packet_read bs) ≡ first_of (causes bs)
+pub reading_refused : (bs : List ℕ) → AllByRecursion (λ x. x < 256) bs → refusal_in (packet_read bs) ≡ first_cause (causes bs)
 reading_refused bs a =
-    outer (length bs) (parity bs) (addressed (front bs)) (first_of (address_causes (front bs)))
+    outer (length bs) (parity bs) (addressed (front bs)) (first_cause (address_causes (front bs)))
     (λ l. two_up (front bs) (simp length-take (omega arith)) (All-take (λ x. x < 256) (length bs - 1) bs a))

@@ -4,7 +4,7 @@ use Rattle.std.proofs.ByRecursion.{All-take}
 use Rattle.std.proofs.lemmas.List.{take_more, take_all}
 use Rattle.std.proofs.lemmas.Bool.{cases_lt, cases_Bool}
 use Rattle.std.proofs.lemmas.Bool.Decides.{nat_tests}
-use Rattle.std.specs.List.{AllByRecursion as All}
+use Rattle.std.specs.List.{AllByRecursion}
 use Rattle.packet.specs.declared.target.Target.{Target}
 use Rattle.packet.specs.declared.target.Target.TheVariants.{Idle, Broadcast, Short, Long, Basic, Extended}
 use Rattle.packet.specs.declared.instruction.Instruction.{Instruction}
@@ -44,7 +44,7 @@ split t h b r p e writes =
       whole = refl;
     }
 
-short_forth : (b : ℕ) (bs : List ℕ) (p : Packet) → All (λ x. x < 256) bs → b < 0x80 → addressed (b ∷ bs) ≡ Ok p → Split p (b ∷ bs)
+short_forth : (b : ℕ) (bs : List ℕ) (p : Packet) → AllByRecursion (λ x. x < 256) bs → b < 0x80 → addressed (b ∷ bs) ≡ Ok p → Split p (b ∷ bs)
 unfolding addressed
 short_forth b bs p a l e =
     ⊎_elim
@@ -57,7 +57,7 @@ short_forth b bs p a l e =
     split (Short b) (b ∷ []) bs (mobile bs) p q (λ i f. (grind (arith, nat_tests), mobile_forth bs a i f)))
     (cases_lt b 1)
 
-long_forth : (b d : ℕ) (bs : List ℕ) (p : Packet) → All (λ x. x < 256) (d ∷ bs) → 0xc0 ≤ b → b < 0xe8 → addressed (b ∷ d ∷ bs) ≡ Ok p → Split p (b ∷ d ∷ bs)
+long_forth : (b d : ℕ) (bs : List ℕ) (p : Packet) → AllByRecursion (λ x. x < 256) (d ∷ bs) → 0xc0 ≤ b → b < 0xe8 → addressed (b ∷ d ∷ bs) ≡ Ok p → Split p (b ∷ d ∷ bs)
 unfolding addressed long
 long_forth b d bs p a l m e =
     let q : told (Long (256 * (b - 0xc0) + d)) (mobile bs) ≡ Ok p = grind (arith, nat_tests) in
@@ -73,7 +73,7 @@ extended_head b d l m e =
     let r : d % 2 ≡ 1 = grind (arith, nat_tests) in
     (omega arith, omega arith, omega arith)
 
-basic_split : (b d : ℕ) (bs : List ℕ) (p : Packet) → All (λ x. x < 256) (d ∷ bs) → 0x80 ≤ b → b < 0xc0 → 0x80 ≤ d → told (Basic (basic_address b d)) (basic d bs) ≡ Ok p → Split p (b ∷ d ∷ bs)
+basic_split : (b d : ℕ) (bs : List ℕ) (p : Packet) → AllByRecursion (λ x. x < 256) (d ∷ bs) → 0x80 ≤ b → b < 0xc0 → 0x80 ≤ d → told (Basic (basic_address b d)) (basic d bs) ≡ Ok p → Split p (b ∷ d ∷ bs)
 basic_split b d bs p a l m n e =
     split (Basic (basic_address b d)) (b ∷ d ∷ []) bs (basic d bs) p e
     (λ i f.
@@ -81,12 +81,12 @@ basic_split b d bs p a l m n e =
     let h = basic_head b d (output_bits (form_of i)) l m n a.0 w.1 in
     (grind (arith, nat_tests), w.0))
 
-extended_split : (b d : ℕ) (bs : List ℕ) (p : Packet) → All (λ x. x < 256) (d ∷ bs) → 0x80 ≤ b → b < 0xc0 → is_extended_head d ≡ true → told (Extended (extended_address b d)) (extended bs) ≡ Ok p → Split p (b ∷ d ∷ bs)
+extended_split : (b d : ℕ) (bs : List ℕ) (p : Packet) → AllByRecursion (λ x. x < 256) (d ∷ bs) → 0x80 ≤ b → b < 0xc0 → is_extended_head d ≡ true → told (Extended (extended_address b d)) (extended bs) ≡ Ok p → Split p (b ∷ d ∷ bs)
 extended_split b d bs p a l m n e =
     split (Extended (extended_address b d)) (b ∷ d ∷ []) bs (extended bs) p e
     (λ i f. let h = extended_head b d l m n in (grind (arith, nat_tests), extended_forth bs a.1 i f))
 
-accessory_forth : (b d : ℕ) (bs : List ℕ) (p : Packet) → All (λ x. x < 256) (d ∷ bs) → 0x80 ≤ b → b < 0xc0 → addressed (b ∷ d ∷ bs) ≡ Ok p → Split p (b ∷ d ∷ bs)
+accessory_forth : (b d : ℕ) (bs : List ℕ) (p : Packet) → AllByRecursion (λ x. x < 256) (d ∷ bs) → 0x80 ≤ b → b < 0xc0 → addressed (b ∷ d ∷ bs) ≡ Ok p → Split p (b ∷ d ∷ bs)
 unfolding addressed accessory
 accessory_forth b d bs p a l m e =
     ⊎_elim
@@ -122,14 +122,14 @@ none_addressed : (p : Packet) → addressed [] ≡ Ok p → ⊥
 unfolding addressed
 none_addressed p e = let z : ◌≡◌ {A = ℕ} 0 1 = cc in omega arith
 
-addressed_forth : (xs : List ℕ) (p : Packet) → All (λ x. x < 256) xs → addressed xs ≡ Ok p → Split p xs
+addressed_forth : (xs : List ℕ) (p : Packet) → AllByRecursion (λ x. x < 256) xs → addressed xs ≡ Ok p → Split p xs
 addressed_forth [] p a e = absurd (none_addressed p e)
 addressed_forth (b ∷ bs) p a e =
     ⊎_elim (λ l. short_forth b bs p a.1 l e)
     (λ l. ⊎_elim (λ m. two bs a.1 l m e) (λ m. idle_forth b bs p a.0 m e) (cases_lt b 0xe8))
     (cases_lt b 0x80)
   where
-    two : (cs : List ℕ) → All (λ x. x < 256) cs → 0x80 ≤ b → b < 0xe8 → addressed (b ∷ cs) ≡ Ok p → Split p (b ∷ cs)
+    two : (cs : List ℕ) → AllByRecursion (λ x. x < 256) cs → 0x80 ≤ b → b < 0xe8 → addressed (b ∷ cs) ≡ Ok p → Split p (b ∷ cs)
     two [] h l m f = absurd (one_byte b p l m f)
     two (d ∷ cs) h l m f =
         ⊎_elim (λ n. accessory_forth b d cs p h l n f) (λ n. long_forth b d cs p h n m f) (cases_lt b 0xc0)
@@ -147,7 +147,7 @@ front_seals bs l e =
 reading_parts : (bs : List ℕ) (p : Packet) → packet_read bs ≡ Ok p → (3 ≤ length bs) × (parity bs ≡ 0) × (addressed (front bs) ≡ Ok p)
 reading_parts bs p e = grind (arith, nat_tests)
 
-pub read_writes : (bs : List ℕ) → All (λ b. b < 256) bs → (p : Packet) → packet_read bs ≡ Ok p → encoded p.target p.instruction ≡ Ok bs
+pub read_writes : (bs : List ℕ) → AllByRecursion (λ b. b < 256) bs → (p : Packet) → packet_read bs ≡ Ok p → encoded p.target p.instruction ≡ Ok bs
 unfolding encoded
 read_writes bs a p e =
     let q = reading_parts bs p e in

@@ -59,9 +59,9 @@ reserved_consist is = within 0x12 0x13 (byte 0 is) && nat_le 0x80 (byte 1 is)
 abbrev pub Cause : Type 0
 Cause = Bool × Refusal
 
-abbrev pub first_of : List Cause → Option Refusal
-first_of [] = None
-first_of (c ∷ cs) = cond c.0 (Some c.1) (first_of cs)
+abbrev pub first_cause : List Cause → Option Refusal
+first_cause [] = None
+first_cause (c ∷ cs) = cond c.0 (Some c.1) (first_cause cs)
 
 abbrev pub mobile_causes : List ℕ → List Cause
 mobile_causes is =

@@ -1,7 +1,7 @@
 ghost use Rattle.std.specs.Prelude.{◌≡◌, ◌+◌, ◌-◌, ◌*◌, ◌≤◌};
 ghost use Rattle.format.specs.Reading.{told, long as long_of, idle as idle_of, by_address, addressed as addressed_of, packet_read};
 ghost use Rattle.format.specs.Laws.{WrittenBack, AllAccepted};
-ghost use Rattle.format.specs.Refusing.{refusal_in, first_of, causes};
+ghost use Rattle.format.specs.Refusing.{refusal_in, first_cause, causes};
 
 use crate::accessory::accessory;
 use crate::mobile::mobile;
@@ -92,7 +92,7 @@ pub fn read(packet: &[u8]) -> Result<Packet, Refusal>
     ensures value { result ≡ packet_read packet.now }
     ensures written_back { WrittenBack packet.now result }
     ensures all_accepted { AllAccepted packet.now result }
-    ensures refused { refusal_in result ≡ first_of (causes packet.now) }
+    ensures refused { refusal_in result ≡ first_cause (causes packet.now) }
 {
     decode(packet)
 }

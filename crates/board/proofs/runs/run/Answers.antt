@@ -1,8 +1,7 @@
-use Rattle.std.proofs.Common.{◌≡◌, true, length, sym, refl, ap, ◌∙◌, subst, arith}
+use Rattle.std.proofs.Common.{length, sym, ap, ◌∙◌, subst, arith}
 use Rattle.std.proofs.lemmas.Bool.{cond-true, le-leb, and_from}
 use Rattle.script.specs.Boards.{Lent, lent, is_lent}
 use Rattle.script.proofs.Runs.{is_promised}
-use Rattle.board.specs.Slots.{fitting_kinds, running_kinds}
 use Rattle.board.specs.Steps.{FittedTo}
 use Rattle.board.proofs.Scripts.{has_run, all_rest}
 use Rattle.board.proofs.runs.run.Goals as goal

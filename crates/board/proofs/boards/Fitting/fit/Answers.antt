@@ -1,6 +1,4 @@
-use Rattle.std.proofs.Common.{◌≡◌, ℕ, length, Result, sym, refl, ap, ◌∙◌, subst}
-use Rattle.fault.specs.declared.fault.Fault.{Fault}
-use Rattle.script.specs.declared.fit.Fit.{Fit}
+use Rattle.std.proofs.Common.{sym, ap, ◌∙◌, subst}
 use Rattle.script.specs.Boards.{Lent, lent}
 use Rattle.script.specs.Fittings.{fitting}
 use Rattle.board.specs.Slots.{fitting_kinds}

@@ -1,5 +1,4 @@
-use Rattle.std.proofs.Common.{◌≡◌, cond, Ok, sym, refl, ap, ◌∙◌, subst, ap₂}
-use Rattle.script.specs.declared.call.Request.{Request}
+use Rattle.std.proofs.Common.{◌≡◌, cond, Ok, sym, refl, ap, ◌∙◌, subst}
 use Rattle.script.specs.declared.call.Request.TheVariants.{Set, State, Variable, Function, BinaryState}
 use Rattle.script.specs.declared.call.Call.TheVariants.{Ask}
 use Rattle.script.specs.declared.answer.Answer.{Answer}
