@@ -1,4 +1,4 @@
-ghost use Rattle.std.specs.Prelude.{◌≡◌, ◌≤◌, true, ◌&&◌, leb, [], length, take, drop, if◌then◌else◌, Some, None, nat_le};
+ghost use Rattle.std.specs.Prelude.{◌≡◌, ◌≤◌, true, ◌&&◌, [], length, take, drop, if◌then◌else◌, Some, None, nat_le};
 ghost use Rattle.fault.specs.declared.refusal.Refusal.TheVariants.{PlaceTooShort};
 ghost use Rattle.script.specs.declared.answer.Answer.TheVariants as answers;
 ghost use Rattle.script.specs.Decoders.{answered, refused_by};
@@ -29,7 +29,7 @@ pub fn run<M: Memory>(
     numbers: &mut [Answer],
     answers: &mut [Answer],
 ) -> Result<Running, Fault>
-    ensures answer { refused_with result ≡ (if leb (length fits.now) (length numbers.old) && nat_le (length calls.now) (length answers.old) then None else Some (refused_by PlaceTooShort)) }
+    ensures answer { refused_with result ≡ (if nat_le (length fits.now) (length numbers.old) && nat_le (length calls.now) (length answers.old) then None else Some (refused_by PlaceTooShort)) }
     ensures promised { OnSuccess result (λ b. Promised fits.now calls.now (lent mobiles.old basics.old extendeds.old (M.Memory.cells memory.old) (M.Memory.outside memory.old)) (running_kinds b) (lent mobiles.new basics.new extendeds.new (M.Memory.cells memory.new) (M.Memory.outside memory.new)) (take (length fits.now) numbers.new) (take (length calls.now) answers.new)) }
     ensures spare { OnSuccess result (λ _. (drop (length fits.now) numbers.new ≡ drop (length fits.now) numbers.old) × (drop (length calls.now) answers.new ≡ drop (length calls.now) answers.old)) }
     ensures refused { OnRefusal result (((lent mobiles.new basics.new extendeds.new (M.Memory.cells memory.new) (M.Memory.outside memory.new)) ≡ (lent mobiles.old basics.old extendeds.old (M.Memory.cells memory.old) (M.Memory.outside memory.old))) × (numbers.new ≡ numbers.old) × (answers.new ≡ answers.old)) }
