@@ -1,3 +1,6 @@
+ghost use Rattle.std.specs.Prelude.{◌≡◌};
+ghost use Rattle.fault.specs.Places.{nowhere};
+
 use crate::refusal::Refusal;
 
 /// A refusal and where it stands: a byte of a block or a cell of a memory, else 0.
@@ -5,4 +8,13 @@ use crate::refusal::Refusal;
 pub struct Fault {
     pub refusal: Refusal,
     pub offset: usize,
+}
+
+/// A refusal that is about no place.
+impl From<Refusal> for Fault {
+    ghost from_gives = { λ refusal fault. fault ≡ nowhere refusal };
+
+    fn from(refusal: Refusal) -> Fault {
+        Fault { refusal, offset: 0 }
+    }
 }

@@ -40,17 +40,38 @@ impl Refusal {
     pub fn layer(self) -> Layer
         ensures { result ≡ (row self).1 }
     {
-        match self.number() {
-            10..=13 => Layer::Block,
-            14..=19 => Layer::Board,
-            22 => Layer::Memory,
+        match self {
+            Refusal::BlockLength
+            | Refusal::UnknownKind
+            | Refusal::BodyCutOff
+            | Refusal::NonzeroFill => Layer::Block,
+            Refusal::FittedAddress
+            | Refusal::BankFull
+            | Refusal::TooFewCells
+            | Refusal::LentTooShort
+            | Refusal::NoSuchDecoder
+            | Refusal::NumberOutOfRange => Layer::Board,
+            Refusal::CellOutOfRange => Layer::Memory,
             _ => Layer::Packet,
         }
     }
+}
 
-    /// The refusal in a few words.
-    fn name(self) -> &'static str {
-        match self {
+impl fmt::Display for Layer {
+    fn fmt<W: fmt::Write>(&self, f: &mut fmt::Formatter<W>) -> fmt::Result {
+        f.write_str(match self {
+            Layer::Packet => "packet",
+            Layer::Block => "block",
+            Layer::Board => "board",
+            Layer::Memory => "memory",
+        })
+    }
+}
+
+/// The refusal in a few words.
+impl fmt::Display for Refusal {
+    fn fmt<W: fmt::Write>(&self, f: &mut fmt::Formatter<W>) -> fmt::Result {
+        f.write_str(match self {
             Refusal::PacketLength => "packet length not 3 to 6",
             Refusal::ErrorByte => "wrong error byte",
             Refusal::ReservedAddress => "reserved address",
@@ -73,22 +94,14 @@ impl Refusal {
             Refusal::FieldOutOfRange => "field out of range",
             Refusal::PlaceTooShort => "place too short",
             Refusal::CellOutOfRange => "cell out of range",
-        }
-    }
-}
-
-impl fmt::Display for Refusal {
-    fn fmt<W: fmt::Write>(&self, f: &mut fmt::Formatter<W>) -> fmt::Result {
-        let name = self.name();
-        write!(f, "{name}")
+        })
     }
 }
 
 impl fmt::Display for Fault {
     fn fmt<W: fmt::Write>(&self, f: &mut fmt::Formatter<W>) -> fmt::Result {
-        let number = self.refusal.number();
-        let name = self.refusal.name();
-        let offset = self.offset;
-        write!(f, "{number} {name}, offset {offset}")
+        let Fault { refusal, offset } = self;
+        let number = refusal.number();
+        write!(f, "{number} {refusal}, offset {offset}")
     }
 }
