@@ -1,10 +1,10 @@
 -- What is written reads as itself. Assumes nothing.
-use Rattle.std.proofs.Common.{◌≡◌, ℕ, ◌+◌, ◌-◌, ◌*◌, ◌/◌, ◌%◌, ◌<◌, true, false, List, [], ◌∷◌, Ok, arith}
+use Rattle.std.proofs.Common.{◌≡◌, ℕ, ◌+◌, ◌-◌, ◌*◌, ◌/◌, ◌%◌, ◌<◌, List, Ok, arith}
 use Rattle.std.proofs.lemmas.Bool.Decides.{nat_tests}
 use Rattle.packet.specs.declared.cv.CvNumber.{CvNumber}
-use Rattle.packet.specs.declared.instruction.FunctionGroup.TheVariants.{F0ToF4, F5ToF8, F9ToF12, F13ToF20, F21ToF28, F29ToF36, F37ToF44, F45ToF52, F53ToF60, F61ToF68}
+use Rattle.packet.specs.declared.instruction.FunctionGroup.TheVariants.{F0ToF4}
 use Rattle.packet.specs.declared.instruction.Instruction.{Instruction}
-use Rattle.packet.specs.declared.instruction.Instruction.TheVariants.{NoOperation, Reset, HardReset, AdvancedAddressing, AcknowledgmentRequest, Consist, Speed, Speed126, Functions, BinaryStateShort, BinaryStateLong, AccelerationAdjustment, DecelerationAdjustment, VerifyByte, WriteByte, VerifyBit, WriteBit, Output, Aspect}
+use Rattle.packet.specs.declared.instruction.Instruction.TheVariants.{Functions, VerifyByte, WriteByte, VerifyBit, WriteBit}
 use Rattle.packet.specs.Wires.{cv_at}
 use Rattle.format.specs.Reading.{mobile, cv_access, basic, extended}
 use Rattle.format.specs.Writing.{form_of, cv_body, mobile_body, basic_body, extended_body, output_bits}
@@ -19,122 +19,46 @@ cv_upper cv = omega (arith, cv.least, cv.most)
 
 pub access_back : (i : Instruction) (bs : List ℕ) → cv_body (form_of i) ≡ Ok bs → cv_access bs ≡ Ok i
 unfolding cv_access
-access_back NoOperation bs e = grind (arith, nat_tests)
-access_back Reset bs e = grind (arith, nat_tests)
-access_back HardReset bs e = grind (arith, nat_tests)
-access_back (AdvancedAddressing on) bs e = grind (arith, nat_tests)
-access_back AcknowledgmentRequest bs e = grind (arith, nat_tests)
-access_back (Consist reversed address) bs e = grind (arith, nat_tests)
-access_back (Speed forward code) bs e = grind (arith, nat_tests)
-access_back (Speed126 forward code) bs e = grind (arith, nat_tests)
-access_back (Functions group bits) bs e = grind (arith, nat_tests)
-access_back (BinaryStateShort on number) bs e = grind (arith, nat_tests)
-access_back (BinaryStateLong on number) bs e = grind (arith, nat_tests)
-access_back (AccelerationAdjustment value) bs e = grind (arith, nat_tests)
-access_back (DecelerationAdjustment value) bs e = grind (arith, nat_tests)
 access_back (VerifyByte cv value) bs e = let f = cv_back cv 57 in let u = cv_upper cv in grind (arith, nat_tests)
 access_back (WriteByte cv value) bs e = let f = cv_back cv 59 in let u = cv_upper cv in grind (arith, nat_tests)
-access_back (VerifyBit cv bit true) bs e = let f = cv_back cv 58 in let u = cv_upper cv in grind (arith, nat_tests)
-access_back (VerifyBit cv bit false) bs e = let f = cv_back cv 58 in let u = cv_upper cv in grind (arith, nat_tests)
-access_back (WriteBit cv bit true) bs e = let f = cv_back cv 58 in let u = cv_upper cv in grind (arith, nat_tests)
-access_back (WriteBit cv bit false) bs e = let f = cv_back cv 58 in let u = cv_upper cv in grind (arith, nat_tests)
-access_back (Output number on) bs e = grind (arith, nat_tests)
-access_back (Aspect number) bs e = grind (arith, nat_tests)
+access_back (VerifyBit cv bit value) bs e = let f = cv_back cv 58 in let u = cv_upper cv in grind (arith, nat_tests)
+access_back (WriteBit cv bit value) bs e = let f = cv_back cv 58 in let u = cv_upper cv in grind (arith, nat_tests)
+access_back _ bs e = grind (arith, nat_tests)
 
 -- what a long-form instruction says to an accessory decoder it says to a mobile one
 access_mobile : (bs : List ℕ) (i : Instruction) → cv_access bs ≡ Ok i → mobile bs ≡ Ok i
 unfolding cv_access mobile
-access_mobile [] i e = grind (arith, nat_tests)
-access_mobile (b ∷ bs) i e = grind (arith, nat_tests)
+access_mobile bs i e = grind (arith, nat_tests)
 
 pub mobile_back : (i : Instruction) (bs : List ℕ) → mobile_body (form_of i) ≡ Ok bs → mobile bs ≡ Ok i
 unfolding mobile
-mobile_back NoOperation bs e = grind (arith, nat_tests)
-mobile_back Reset bs e = grind (arith, nat_tests)
-mobile_back HardReset bs e = grind (arith, nat_tests)
-mobile_back (AdvancedAddressing true) bs e = grind (arith, nat_tests)
-mobile_back (AdvancedAddressing false) bs e = grind (arith, nat_tests)
-mobile_back AcknowledgmentRequest bs e = grind (arith, nat_tests)
-mobile_back (Consist true address) bs e = grind (arith, nat_tests)
-mobile_back (Consist false address) bs e = grind (arith, nat_tests)
-mobile_back (Speed true code) bs e = grind (arith, nat_tests)
-mobile_back (Speed false code) bs e = grind (arith, nat_tests)
-mobile_back (Speed126 true code) bs e = grind (arith, nat_tests)
-mobile_back (Speed126 false code) bs e = grind (arith, nat_tests)
 mobile_back (Functions F0ToF4 bits) bs e = grind (arith, nat_tests)
-mobile_back (Functions F5ToF8 bits) bs e = grind (arith, nat_tests)
-mobile_back (Functions F9ToF12 bits) bs e = grind (arith, nat_tests)
-mobile_back (Functions F13ToF20 bits) bs e = grind (arith, nat_tests)
-mobile_back (Functions F21ToF28 bits) bs e = grind (arith, nat_tests)
-mobile_back (Functions F29ToF36 bits) bs e = grind (arith, nat_tests)
-mobile_back (Functions F37ToF44 bits) bs e = grind (arith, nat_tests)
-mobile_back (Functions F45ToF52 bits) bs e = grind (arith, nat_tests)
-mobile_back (Functions F53ToF60 bits) bs e = grind (arith, nat_tests)
-mobile_back (Functions F61ToF68 bits) bs e = grind (arith, nat_tests)
-mobile_back (BinaryStateShort true number) bs e = grind (arith, nat_tests)
-mobile_back (BinaryStateShort false number) bs e = grind (arith, nat_tests)
-mobile_back (BinaryStateLong true number) bs e = grind (arith, nat_tests)
-mobile_back (BinaryStateLong false number) bs e = grind (arith, nat_tests)
-mobile_back (AccelerationAdjustment value) bs e = grind (arith, nat_tests)
-mobile_back (DecelerationAdjustment value) bs e = grind (arith, nat_tests)
 mobile_back (VerifyByte cv value) bs e = access_mobile bs (VerifyByte cv value) (access_back (VerifyByte cv value) bs e)
 mobile_back (WriteByte cv value) bs e = access_mobile bs (WriteByte cv value) (access_back (WriteByte cv value) bs e)
 mobile_back (VerifyBit cv bit value) bs e = access_mobile bs (VerifyBit cv bit value) (access_back (VerifyBit cv bit value) bs e)
 mobile_back (WriteBit cv bit value) bs e = access_mobile bs (WriteBit cv bit value) (access_back (WriteBit cv bit value) bs e)
-mobile_back (Output number on) bs e = grind (arith, nat_tests)
-mobile_back (Aspect number) bs e = grind (arith, nat_tests)
+mobile_back _ bs e = grind (arith, nat_tests)
 
 basic_access : (head : ℕ) (bs : List ℕ) (i : Instruction) → head % 16 ≡ 0 → cv_access bs ≡ Ok i → basic head bs ≡ Ok i
 unfolding cv_access
-basic_access head [] i h e = grind (arith, nat_tests)
-basic_access head (b ∷ bs) i h e = grind (arith, nat_tests)
+basic_access head bs i h e = grind (arith, nat_tests)
 
 -- behind a basic head whose low four bits are those of the instruction
 pub basic_back : (i : Instruction) (head : ℕ) (bs : List ℕ) → head % 16 ≡ output_bits (form_of i) → basic_body (form_of i) ≡ Ok bs → basic head bs ≡ Ok i
-basic_back NoOperation head bs h e = grind (arith, nat_tests)
-basic_back Reset head bs h e = grind (arith, nat_tests)
-basic_back HardReset head bs h e = grind (arith, nat_tests)
-basic_back (AdvancedAddressing on) head bs h e = grind (arith, nat_tests)
-basic_back AcknowledgmentRequest head bs h e = grind (arith, nat_tests)
-basic_back (Consist reversed address) head bs h e = grind (arith, nat_tests)
-basic_back (Speed forward code) head bs h e = grind (arith, nat_tests)
-basic_back (Speed126 forward code) head bs h e = grind (arith, nat_tests)
-basic_back (Functions group bits) head bs h e = grind (arith, nat_tests)
-basic_back (BinaryStateShort on number) head bs h e = grind (arith, nat_tests)
-basic_back (BinaryStateLong on number) head bs h e = grind (arith, nat_tests)
-basic_back (AccelerationAdjustment value) head bs h e = grind (arith, nat_tests)
-basic_back (DecelerationAdjustment value) head bs h e = grind (arith, nat_tests)
 basic_back (VerifyByte cv value) head bs h e = basic_access head bs _ h (access_back (VerifyByte cv value) bs e)
 basic_back (WriteByte cv value) head bs h e = basic_access head bs _ h (access_back (WriteByte cv value) bs e)
 basic_back (VerifyBit cv bit value) head bs h e = basic_access head bs _ h (access_back (VerifyBit cv bit value) bs e)
 basic_back (WriteBit cv bit value) head bs h e = basic_access head bs _ h (access_back (WriteBit cv bit value) bs e)
-basic_back (Output number true) head bs h e = grind (arith, nat_tests)
-basic_back (Output number false) head bs h e = grind (arith, nat_tests)
-basic_back (Aspect number) head bs h e = grind (arith, nat_tests)
+basic_back _ head bs h e = grind (arith, nat_tests)
 
 extended_access : (bs : List ℕ) (i : Instruction) → cv_access bs ≡ Ok i → extended bs ≡ Ok i
 unfolding cv_access extended
-extended_access [] i e = grind (arith, nat_tests)
-extended_access (b ∷ bs) i e = grind (arith, nat_tests)
+extended_access bs i e = grind (arith, nat_tests)
 
 pub extended_back : (i : Instruction) (bs : List ℕ) → extended_body (form_of i) ≡ Ok bs → extended bs ≡ Ok i
 unfolding extended
-extended_back NoOperation bs e = grind (arith, nat_tests)
-extended_back Reset bs e = grind (arith, nat_tests)
-extended_back HardReset bs e = grind (arith, nat_tests)
-extended_back (AdvancedAddressing on) bs e = grind (arith, nat_tests)
-extended_back AcknowledgmentRequest bs e = grind (arith, nat_tests)
-extended_back (Consist reversed address) bs e = grind (arith, nat_tests)
-extended_back (Speed forward code) bs e = grind (arith, nat_tests)
-extended_back (Speed126 forward code) bs e = grind (arith, nat_tests)
-extended_back (Functions group bits) bs e = grind (arith, nat_tests)
-extended_back (BinaryStateShort on number) bs e = grind (arith, nat_tests)
-extended_back (BinaryStateLong on number) bs e = grind (arith, nat_tests)
-extended_back (AccelerationAdjustment value) bs e = grind (arith, nat_tests)
-extended_back (DecelerationAdjustment value) bs e = grind (arith, nat_tests)
 extended_back (VerifyByte cv value) bs e = extended_access bs _ (access_back (VerifyByte cv value) bs e)
 extended_back (WriteByte cv value) bs e = extended_access bs _ (access_back (WriteByte cv value) bs e)
 extended_back (VerifyBit cv bit value) bs e = extended_access bs _ (access_back (VerifyBit cv bit value) bs e)
 extended_back (WriteBit cv bit value) bs e = extended_access bs _ (access_back (WriteBit cv bit value) bs e)
-extended_back (Output number on) bs e = grind (arith, nat_tests)
-extended_back (Aspect number) bs e = grind (arith, nat_tests)
+extended_back _ bs e = grind (arith, nat_tests)

@@ -1,28 +1,20 @@
 -- What is read is written back to its own bytes: the instruction. Assumes nothing.
-use Rattle.std.proofs.Common.{◌≡◌, ℕ, ◌%◌, ◌<◌, ◌≤◌, List, [], ◌∷◌, Ok, sym, refl, ◌∙◌, ⊎_elim, arith}
+use Rattle.std.proofs.Common.{◌≡◌, ℕ, ◌%◌, ◌<◌, ◌≤◌, List, [], ◌∷◌, Ok, sym, ◌∙◌, ⊎_elim, arith}
 use Rattle.std.proofs.lemmas.Bool.{cases_eq, cases_lt}
 use Rattle.std.proofs.lemmas.Bool.Decides.{nat_tests}
 use Rattle.std.specs.List.{AllByRecursion}
 use Rattle.packet.specs.declared.instruction.Instruction.{Instruction}
 use Rattle.format.specs.Reading.{mobile, cv_access, basic, extended}
-use Rattle.format.specs.Writing.Form.{nothing, mobile_only, anyone, output, aspect}
 use Rattle.format.specs.Writing.{Form, form_of, cv_body, mobile_body, basic_body, extended_body, output_bits}
 
 pub access_forth : (bs : List ℕ) → AllByRecursion (λ b. b < 256) bs → (i : Instruction) → cv_access bs ≡ Ok i → (cv_body (form_of i) ≡ Ok bs)
 unfolding cv_access
-access_forth [] h i e = grind (arith, nat_tests)
-access_forth (b ∷ []) h i e = grind (arith, nat_tests)
-access_forth (b ∷ c ∷ []) h i e = grind (arith, nat_tests)
-access_forth (b ∷ c ∷ d ∷ []) h i e = grind (arith, nat_tests)
 access_forth (b ∷ c ∷ d ∷ f ∷ bs) h i e = grind (arith, nat_tests)
+access_forth _ h i e = grind (arith, nat_tests)
 
 -- the long form says the same to every decoder
 pub cv_mobile : (f : Form) (bs : List ℕ) → cv_body f ≡ Ok bs → mobile_body f ≡ Ok bs
-cv_mobile nothing bs e = e
-cv_mobile (mobile_only xs) bs e = grind (arith, nat_tests)
-cv_mobile (anyone xs) bs e = e
-cv_mobile (output number on) bs e = e
-cv_mobile (aspect number) bs e = e
+cv_mobile f bs e = grind (arith, nat_tests)
 
 -- of three bytes are the long binary state and the long form
 mobile_access : (b c d : ℕ) (i : Instruction) → (b ≡ 0xc0 → ⊥) → mobile (b ∷ c ∷ d ∷ []) ≡ Ok i → cv_access (b ∷ c ∷ d ∷ []) ≡ Ok i
@@ -52,7 +44,7 @@ one_high b i l e = grind (arith, nat_tests)
 
 none_read : (i : Instruction) → mobile [] ≡ Ok i → ⊥
 unfolding mobile
-none_read i e = let z : ◌≡◌ {A = ℕ} 0 1 = cc in omega arith
+none_read i e = grind arith
 
 four_read : (b c d f : ℕ) (bs : List ℕ) (i : Instruction) → mobile (b ∷ c ∷ d ∷ f ∷ bs) ≡ Ok i → ⊥
 unfolding mobile
@@ -67,18 +59,10 @@ mobile_forth (b ∷ c ∷ d ∷ []) h i e =
 mobile_forth (b ∷ c ∷ d ∷ f ∷ bs) h i e = absurd (four_read b c d f bs i e)
 
 cv_basic : (f : Form) (bs : List ℕ) → cv_body f ≡ Ok bs → (basic_body f ≡ Ok bs) × (output_bits f ≡ 0)
-cv_basic nothing bs e = (e, refl)
-cv_basic (mobile_only xs) bs e = (e, refl)
-cv_basic (anyone xs) bs e = (e, refl)
-cv_basic (output number on) bs e = grind (arith, nat_tests)
-cv_basic (aspect number) bs e = (e, refl)
+cv_basic f bs e = grind (arith, nat_tests)
 
 cv_extended : (f : Form) (bs : List ℕ) → cv_body f ≡ Ok bs → extended_body f ≡ Ok bs
-cv_extended nothing bs e = e
-cv_extended (mobile_only xs) bs e = e
-cv_extended (anyone xs) bs e = e
-cv_extended (output number on) bs e = e
-cv_extended (aspect number) bs e = grind (arith, nat_tests)
+cv_extended f bs e = grind (arith, nat_tests)
 
 basic_access : (head b : ℕ) (bs : List ℕ) (i : Instruction) → basic head (b ∷ bs) ≡ Ok i → (head % 16 ≡ 0) × (cv_access (b ∷ bs) ≡ Ok i)
 basic_access head b bs i e = grind (arith, nat_tests)
@@ -92,8 +76,7 @@ basic_forth head (b ∷ bs) h i e =
 
 aspect_forth : (b : ℕ) (bs : List ℕ) (i : Instruction) → b < 0x20 → extended (b ∷ bs) ≡ Ok i → extended_body (form_of i) ≡ Ok (b ∷ bs)
 unfolding extended
-aspect_forth b [] i l e = grind (arith, nat_tests)
-aspect_forth b (d ∷ bs) i l e = grind (arith, nat_tests)
+aspect_forth b bs i l e = grind (arith, nat_tests)
 
 extended_access : (b : ℕ) (bs : List ℕ) (i : Instruction) → 0x20 ≤ b → extended (b ∷ bs) ≡ Ok i → cv_access (b ∷ bs) ≡ Ok i
 unfolding extended

@@ -10,7 +10,7 @@ use Rattle.format.proofs.Rounds.{written_reads}
 
 -- an answer tells the bytes that stand at the front now
 front_is : (x : Coded) (place : List ℕ) (n : ℕ) → answer x place ≡ Ok n → x ≡ Ok (take n (after x place))
-front_is (Err e) place n h = let z : ◌≡◌ {A = ℕ} 0 1 = cc in absurd (omega arith)
+front_is (Err e) place n h = absurd (grind arith)
 front_is (Ok bs) place n h =
     let l : length bs ≡ n = grind (arith, nat_tests) in
     let a : after (Ok bs) place ≡ bs ++ drop (length bs) place = grind (arith, nat_tests) in

@@ -1,8 +1,8 @@
 -- Each refusal stands exactly where its cause is the first that stands. Assumes nothing.
-use Rattle.std.proofs.Common.{◌≡◌, ℕ, ◌+◌, ◌-◌, ◌*◌, ◌<◌, ◌≤◌, true, false, cond, not, ◌&&◌, eqb, ltb, leb, List, [], ◌∷◌, length, drop, Some, None, Ok, Err, Option, sym, refl, ap, ◌∙◌, ⊎_elim, arith, length-take}
+use Rattle.std.proofs.Common.{◌≡◌, ℕ, ◌+◌, ◌-◌, ◌*◌, ◌<◌, ◌≤◌, true, false, cond, not, ◌&&◌, eqb, ltb, leb, List, [], ◌∷◌, length, Some, None, Ok, Err, Option, sym, refl, ap, ◌∙◌, ⊎_elim, arith, length-take}
 use Rattle.std.proofs.ByRecursion.{All-take}
 use Rattle.packet.specs.Parity.{parity}
-use Rattle.std.proofs.lemmas.Bool.{cases_lt, cases_Bool, cond-true, cond-false, eq-eqb, ne_eqb, lt-ltb, le-ltb}
+use Rattle.std.proofs.lemmas.Bool.{cases_lt, cases_Bool, cond-true, cond-false, ne_eqb, lt-ltb}
 use Rattle.std.proofs.lemmas.Bool.Decides.{nat_tests}
 use Rattle.std.specs.List.{AllByRecursion}
 use Rattle.fault.specs.declared.refusal.Refusal.{Refusal}
@@ -24,52 +24,34 @@ abbrev Mobile : ℕ → List ℕ → Type 0
 Mobile b bs = refusal_of (by_first b bs) ≡ first_cause (mobile_causes (b ∷ bs))
 
 control : (b : ℕ) (bs : List ℕ) → b < 0x10 → Mobile b bs
-control b [] l = grind (arith, nat_tests)
-control b (c ∷ []) l = grind (arith, nat_tests)
-control b (c ∷ d ∷ []) l = grind (arith, nat_tests)
 control b (c ∷ d ∷ f ∷ bs) l = grind (arith, nat_tests)
+control b _ l = grind (arith, nat_tests)
 
 consist_or_speed : (b : ℕ) (bs : List ℕ) → 0x10 ≤ b → b < 0x40 → Mobile b bs
-consist_or_speed b [] l m = grind (arith, nat_tests)
-consist_or_speed b (c ∷ []) l m = grind (arith, nat_tests)
-consist_or_speed b (c ∷ d ∷ []) l m = grind (arith, nat_tests)
 consist_or_speed b (c ∷ d ∷ f ∷ bs) l m = grind (arith, nat_tests)
+consist_or_speed b _ l m = grind (arith, nat_tests)
 
 speed_forms : (b : ℕ) (bs : List ℕ) → 0x40 ≤ b → b < 0x80 → Mobile b bs
-speed_forms b [] l m = grind (arith, nat_tests)
-speed_forms b (c ∷ []) l m = grind (arith, nat_tests)
-speed_forms b (c ∷ d ∷ []) l m = grind (arith, nat_tests)
-speed_forms b (c ∷ d ∷ f ∷ bs) l m = grind (arith, nat_tests)
+speed_forms b bs l m = grind (arith, nat_tests)
 
 group_forms : (b : ℕ) (bs : List ℕ) → 0x80 ≤ b → b < 0xc0 → Mobile b bs
-group_forms b [] l m = grind (arith, nat_tests)
-group_forms b (c ∷ []) l m = grind (arith, nat_tests)
-group_forms b (c ∷ d ∷ []) l m = grind (arith, nat_tests)
-group_forms b (c ∷ d ∷ f ∷ bs) l m = grind (arith, nat_tests)
+group_forms b bs l m = grind (arith, nat_tests)
 
 state_form : (b : ℕ) (bs : List ℕ) → 0xc0 ≤ b → b < 0xd8 → Mobile b bs
-state_form b [] l m = grind (arith, nat_tests)
-state_form b (c ∷ []) l m = grind (arith, nat_tests)
-state_form b (c ∷ d ∷ []) l m = grind (arith, nat_tests)
 state_form b (c ∷ d ∷ f ∷ bs) l m = grind (arith, nat_tests)
+state_form b _ l m = grind (arith, nat_tests)
 
 features : (b : ℕ) (bs : List ℕ) → 0xd8 ≤ b → b < 0xe0 → Mobile b bs
-features b [] l m = grind (arith, nat_tests)
-features b (c ∷ []) l m = grind (arith, nat_tests)
-features b (c ∷ d ∷ []) l m = grind (arith, nat_tests)
 features b (c ∷ d ∷ f ∷ bs) l m = grind (arith, nat_tests)
+features b _ l m = grind (arith, nat_tests)
 
 long_forms : (b : ℕ) (bs : List ℕ) → 0xe0 ≤ b → b < 0xf0 → Mobile b bs
-long_forms b [] l m = grind (arith, nat_tests)
-long_forms b (c ∷ []) l m = grind (arith, nat_tests)
-long_forms b (c ∷ d ∷ []) l m = grind (arith, nat_tests)
 long_forms b (c ∷ d ∷ f ∷ bs) l m = grind (arith, nat_tests)
+long_forms b _ l m = grind (arith, nat_tests)
 
 adjustments : (b : ℕ) (bs : List ℕ) → 0xf0 ≤ b → b < 0x100 → Mobile b bs
-adjustments b [] l m = grind (arith, nat_tests)
-adjustments b (c ∷ []) l m = grind (arith, nat_tests)
-adjustments b (c ∷ d ∷ []) l m = grind (arith, nat_tests)
 adjustments b (c ∷ d ∷ f ∷ bs) l m = grind (arith, nat_tests)
+adjustments b _ l m = grind (arith, nat_tests)
 
 by_first_lem : (b : ℕ) (bs : List ℕ) → b < 256 → Mobile b bs
 by_first_lem b bs h =
@@ -88,19 +70,13 @@ mobile_refused b bs h = by_first_lem b bs h
 
 basic_refused : (head : ℕ) (is : List ℕ) → AllByRecursion (λ x. x < 256) is → refusal_of (basic head is) ≡ first_cause (basic_causes head is)
 unfolding cv_access
-basic_refused head [] h = grind (arith, nat_tests)
-basic_refused head (b ∷ []) h = grind (arith, nat_tests)
-basic_refused head (b ∷ c ∷ []) h = grind (arith, nat_tests)
-basic_refused head (b ∷ c ∷ d ∷ []) h = grind (arith, nat_tests)
 basic_refused head (b ∷ c ∷ d ∷ f ∷ bs) h = grind (arith, nat_tests)
+basic_refused head _ h = grind (arith, nat_tests)
 
 extended_refused : (is : List ℕ) → AllByRecursion (λ x. x < 256) is → refusal_of (extended is) ≡ first_cause (extended_causes is)
 unfolding cv_access extended
-extended_refused [] h = grind (arith, nat_tests)
-extended_refused (b ∷ []) h = grind (arith, nat_tests)
-extended_refused (b ∷ c ∷ []) h = grind (arith, nat_tests)
-extended_refused (b ∷ c ∷ d ∷ []) h = grind (arith, nat_tests)
 extended_refused (b ∷ c ∷ d ∷ f ∷ bs) h = grind (arith, nat_tests)
+extended_refused _ h = grind (arith, nat_tests)
 
 abbrev Addressed : List ℕ → Type 0
 Addressed xs = refusal_in (addressed xs) ≡ first_cause (address_causes xs)
@@ -111,11 +87,11 @@ joined xs t r cs e f g = ap refusal_in e ∙ told_refused t r ∙ f ∙ sym (ap 
 
 broadcast_told : (b : ℕ) (bs : List ℕ) → b < 1 → addressed (b ∷ bs) ≡ told Broadcast (mobile bs)
 unfolding addressed
-broadcast_told b bs l = cond-true (eqb b 0) _ _ (eq-eqb b 0 (omega arith))
+broadcast_told b bs l = grind (arith, nat_tests)
 
 short_told : (b : ℕ) (bs : List ℕ) → 1 ≤ b → b < 0x80 → addressed (b ∷ bs) ≡ told (Short b) (mobile bs)
 unfolding addressed
-short_told b bs l m = cond-false (eqb b 0) _ _ (ne_eqb b 0 (λ e. omega arith)) ∙ cond-true (ltb b 0x80) _ _ (lt-ltb b 0x80 m)
+short_told b bs l m = grind (arith, nat_tests)
 
 short_refused : (b d : ℕ) (bs : List ℕ) → d < 256 → b < 0x80 → Addressed (b ∷ d ∷ bs)
 short_refused b d bs h l =
@@ -123,25 +99,12 @@ short_refused b d bs h l =
     ⊎_elim (λ z. joined _ _ _ _ (broadcast_told b (d ∷ bs) z) (mobile_refused d bs h) c)
     (λ z. joined _ _ _ _ (short_told b (d ∷ bs) z l) (mobile_refused d bs h) c) (cases_lt b 1)
 
--- past the short addresses
-later_told : (b : ℕ) (bs : List ℕ) → 0x80 ≤ b → addressed (b ∷ bs) ≡ cond (ltb b 0xc0) (accessory b bs) (cond (ltb b 0xe8) (long b bs) (cond (ltb b 0xfd) (Err ReservedAddress) (cond (ltb b 0xff) (Err AdvancedFormat) (idle bs))))
-unfolding addressed
-later_told b bs l = cond-false (eqb b 0) _ _ (ne_eqb b 0 (λ e. omega arith)) ∙ cond-false (ltb b 0x80) _ _ (le-ltb b 0x80 l)
-
-later_causes : (b : ℕ) (bs : List ℕ) → 0xc0 ≤ b → address_causes (b ∷ bs) ≡ cond (within 0xc0 0xe7 b) ((eqb (length (b ∷ bs)) 2, NoInstruction) ∷ mobile_causes (drop 2 (b ∷ bs))) ((within 0xe8 0xfc b, ReservedAddress) ∷ (within 0xfd 0xfe b, AdvancedFormat) ∷ (not (eqb (length (b ∷ bs)) 2 && eqb (byte 1 (b ∷ bs)) 0x00), IdleForm) ∷ [])
-later_causes b bs l =
-    let w : within 0x80 0xbf b ≡ false = grind (arith, nat_tests) in
-    cond-false (ltb b 0x80) _ _ (le-ltb b 0x80 (omega arith)) ∙ cond-false (within 0x80 0xbf b) _ _ w
-
 long-mobile : (b d : ℕ) (bs : List ℕ) → 0xc0 ≤ b → b < 0xe8 → addressed (b ∷ d ∷ bs) ≡ told (Long (256 * (b - 0xc0) + d)) (mobile bs)
-unfolding long
-long-mobile b d bs l m =
-    later_told b (d ∷ bs) (omega arith) ∙ cond-false (ltb b 0xc0) _ _ (le-ltb b 0xc0 l) ∙ cond-true (ltb b 0xe8) _ _ (lt-ltb b 0xe8 m)
+unfolding addressed long
+long-mobile b d bs l m = grind (arith, nat_tests)
 
 long-causes : (b d : ℕ) (bs : List ℕ) → 0xc0 ≤ b → b < 0xe8 → address_causes (b ∷ d ∷ bs) ≡ (eqb (length (b ∷ d ∷ bs)) 2, NoInstruction) ∷ mobile_causes bs
-long-causes b d bs l m =
-    let w : within 0xc0 0xe7 b ≡ true = grind (arith, nat_tests) in
-    later_causes b (d ∷ bs) l ∙ cond-true (within 0xc0 0xe7 b) _ _ w
+long-causes b d bs l m = grind (arith, nat_tests)
 
 no_instruction : refusal_of (mobile []) ≡ Some NoInstruction
 unfolding mobile
@@ -156,13 +119,11 @@ long_refused b d (c ∷ bs) a l m =
     (long-causes b d (c ∷ bs) l m)
 
 accessory-told : (b d : ℕ) (bs : List ℕ) → 0x80 ≤ b → b < 0xc0 → addressed (b ∷ d ∷ bs) ≡ cond (leb 0x80 d) (told (Basic (basic_address b d)) (basic d bs)) (cond (is_extended_head d) (told (Extended (extended_address b d)) (extended bs)) (Err AccessoryHead))
-unfolding accessory
-accessory-told b d bs l m = later_told b (d ∷ bs) l ∙ cond-true (ltb b 0xc0) _ _ (lt-ltb b 0xc0 m)
+unfolding addressed accessory
+accessory-told b d bs l m = grind (arith, nat_tests)
 
 accessory-causes : (b d : ℕ) (bs : List ℕ) → 0x80 ≤ b → b < 0xc0 → address_causes (b ∷ d ∷ bs) ≡ accessory_causes (b ∷ d ∷ bs)
-accessory-causes b d bs l m =
-    let w : within 0x80 0xbf b ≡ true = grind (arith, nat_tests) in
-    cond-false (ltb b 0x80) _ _ (le-ltb b 0x80 l) ∙ cond-true (within 0x80 0xbf b) _ _ w
+accessory-causes b d bs l m = grind (arith, nat_tests)
 
 accessory_refused : (b d : ℕ) (bs : List ℕ) → AllByRecursion (λ x. x < 256) bs → 0x80 ≤ b → b < 0xc0 → Addressed (b ∷ d ∷ bs)
 accessory_refused b d bs a l m = ⊎_elim is_basic (λ n. ⊎_elim (is_extended n) (is_neither n) (cases_Bool (is_extended_head d))) (cases_Bool (leb 0x80 d))
@@ -182,20 +143,17 @@ accessory_refused b d bs a l m = ⊎_elim is_basic (λ n. ⊎_elim (is_extended 
 
 -- E8 to FF
 last_told : (b d : ℕ) (bs : List ℕ) → 0xe8 ≤ b → addressed (b ∷ d ∷ bs) ≡ cond (ltb b 0xfd) (Err ReservedAddress) (cond (ltb b 0xff) (Err AdvancedFormat) (idle (d ∷ bs)))
-last_told b d bs l =
-    later_told b (d ∷ bs) (omega arith) ∙ cond-false (ltb b 0xc0) _ _ (le-ltb b 0xc0 (omega arith)) ∙ cond-false (ltb b 0xe8) _ _ (le-ltb b 0xe8 l)
+unfolding addressed
+last_told b d bs l = grind (arith, nat_tests)
 
 abbrev last_causes : List ℕ → List Cause
 last_causes xs = (within 0xe8 0xfc (byte 0 xs), ReservedAddress) ∷ (within 0xfd 0xfe (byte 0 xs), AdvancedFormat) ∷ (not (eqb (length xs) 2 && eqb (byte 1 xs) 0x00), IdleForm) ∷ []
 
 last_causes_lem : (b : ℕ) (bs : List ℕ) → 0xe8 ≤ b → address_causes (b ∷ bs) ≡ last_causes (b ∷ bs)
-last_causes_lem b bs l =
-    let w : within 0xc0 0xe7 b ≡ false = grind (arith, nat_tests) in
-    later_causes b bs (omega arith) ∙ cond-false (within 0xc0 0xe7 b) _ _ w
+last_causes_lem b bs l = grind (arith, nat_tests)
 
 last_same : (b d : ℕ) (bs : List ℕ) → b < 256 → 0xe8 ≤ b → refusal_in (cond (ltb b 0xfd) (Err ReservedAddress) (cond (ltb b 0xff) (Err AdvancedFormat) (idle (d ∷ bs)))) ≡ first_cause (last_causes (b ∷ d ∷ bs))
-last_same b d [] h l = grind (arith, nat_tests)
-last_same b d (c ∷ bs) h l = grind (arith, nat_tests)
+last_same b d bs h l = grind (arith, nat_tests)
 
 last_refused : (b d : ℕ) (bs : List ℕ) → b < 256 → 0xe8 ≤ b → Addressed (b ∷ d ∷ bs)
 last_refused b d bs h l = ap refusal_in (last_told b d bs l) ∙ last_same b d bs h l ∙ sym (ap first_cause (last_causes_lem b (d ∷ bs) l))

@@ -21,7 +21,7 @@ told_parts : (d : Target) (r : Asked) (p : Packet) → told d r ≡ Ok p → (d 
 told_parts d (Ok j) p e =
     let q : ◌≡◌ {A = Packet} (packet_of d j) p = cc in
     (ap (λ (x : Packet). x.target) q, ap (λ (x : Packet). Ok x.instruction) q)
-told_parts d (Err x) p e = let z : ◌≡◌ {A = ℕ} 0 1 = cc in absurd (omega arith)
+told_parts d (Err x) p e = absurd (grind arith)
 
 -- the two parts that write xs
 record Split (p : Packet) (xs : List ℕ) : Type 0 where
@@ -92,7 +92,7 @@ accessory_forth b d bs p a l m e =
     ⊎_elim
     (λ s.
     ⊎_elim (λ x. extended_split b d bs p a l m x (grind (arith, nat_tests)))
-    (λ x. let q : ◌≡◌ {A = Told} (Err AccessoryHead) (Ok p) = grind (arith, nat_tests) in let z : ◌≡◌ {A = ℕ} 0 1 = cc in absurd (omega arith))
+    (λ x. let q : ◌≡◌ {A = Told} (Err AccessoryHead) (Ok p) = grind (arith, nat_tests) in absurd (grind arith))
     (cases_Bool (is_extended_head d)))
     (λ n. basic_split b d bs p a l m n (grind (arith, nat_tests)))
     (cases_lt d 0x80)
@@ -105,11 +105,11 @@ idle-byte : (d : ℕ) (p : Packet) → idle (d ∷ []) ≡ Ok p → (d ≡ 0x00)
 idle-byte d p e = grind (arith, nat_tests)
 
 idle_split : (bs : List ℕ) (p : Packet) → idle bs ≡ Ok p → Split p (0xff ∷ bs)
-idle_split [] p e = let z : ◌≡◌ {A = ℕ} 0 1 = cc in absurd (omega arith)
+idle_split [] p e = absurd (grind arith)
 idle_split (d ∷ []) p e =
     let q = idle-byte d p e in
     rw (q.0, sym q.1) (record { head = 0xff ∷ 0x00 ∷ []; body = []; head_is = refl; body_is = refl; whole = refl })
-idle_split (d ∷ c ∷ bs) p e = let z : ◌≡◌ {A = ℕ} 0 1 = cc in absurd (omega arith)
+idle_split (d ∷ c ∷ bs) p e = absurd (grind arith)
 
 idle_forth : (b : ℕ) (bs : List ℕ) (p : Packet) → b < 256 → 0xe8 ≤ b → addressed (b ∷ bs) ≡ Ok p → Split p (b ∷ bs)
 idle_forth b bs p a l e = let q = idle-told b bs p a l e in rw q.0 (idle_split bs p q.1)
@@ -120,7 +120,7 @@ one_byte b p l m e = grind (arith, nat_tests)
 
 none_addressed : (p : Packet) → addressed [] ≡ Ok p → ⊥
 unfolding addressed
-none_addressed p e = let z : ◌≡◌ {A = ℕ} 0 1 = cc in omega arith
+none_addressed p e = grind arith
 
 addressed_forth : (xs : List ℕ) (p : Packet) → AllByRecursion (λ x. x < 256) xs → addressed xs ≡ Ok p → Split p xs
 addressed_forth [] p a e = absurd (none_addressed p e)

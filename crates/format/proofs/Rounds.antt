@@ -1,14 +1,14 @@
 -- Whole packets: what is written reads as itself. Assumes nothing.
-use Rattle.std.proofs.Common.{◌≡◌, ℕ, ◌+◌, ◌-◌, ◌*◌, ◌/◌, ◌<◌, ◌≤◌, true, false, ltb, List, [], ◌∷◌, ◌++◌, length, Ok, Err, sym, refl, ap, ◌∙◌, arith}
+use Rattle.std.proofs.Common.{◌≡◌, ℕ, ◌+◌, ◌-◌, ◌*◌, ◌/◌, ◌<◌, ◌≤◌, ltb, List, [], ◌∷◌, ◌++◌, length, Ok, Err, sym, refl, ap, ◌∙◌, arith}
 use Rattle.std.proofs.lemmas.List.{take_at, length-append}
 use Rattle.std.proofs.lemmas.Bool.{cond_both}
 use Rattle.std.proofs.lemmas.Bool.Decides.{nat_tests}
 use Rattle.packet.specs.declared.target.Target.{Target}
 use Rattle.packet.specs.declared.target.Target.TheVariants.{Idle, Broadcast, Short, Long, Basic, Extended}
 use Rattle.packet.specs.declared.instruction.Instruction.{Instruction}
-use Rattle.packet.specs.declared.instruction.Instruction.TheVariants.{NoOperation, Reset, HardReset, AdvancedAddressing, AcknowledgmentRequest, Consist, Speed, Speed126, Functions, BinaryStateShort, BinaryStateLong, AccelerationAdjustment, DecelerationAdjustment, VerifyByte, WriteByte, VerifyBit, WriteBit, Output, Aspect}
+use Rattle.packet.specs.declared.instruction.Instruction.TheVariants.{NoOperation, Consist, Speed, Speed126, Functions, BinaryStateShort, BinaryStateLong, VerifyBit, WriteBit, Output, Aspect}
 use Rattle.packet.specs.declared.instruction.FunctionGroup.{FunctionGroup}
-use Rattle.packet.specs.declared.instruction.FunctionGroup.TheVariants.{F0ToF4, F5ToF8, F9ToF12, F13ToF20, F21ToF28, F29ToF36, F37ToF44, F45ToF52, F53ToF60, F61ToF68}
+use Rattle.packet.specs.declared.instruction.FunctionGroup.TheVariants.{F0ToF4, F5ToF8, F9ToF12}
 use Rattle.fault.specs.declared.refusal.Refusal.TheVariants.{FieldOutOfRange}
 use Rattle.packet.specs.Parity.{parity, sealed}
 use Rattle.format.specs.Reading.{packet_of, long, accessory, addressed, front, packet_read}
@@ -27,37 +27,15 @@ record Parts (x y : Coded) (bs : List ℕ) : Type 0 where
 
 parts : (x y : Coded) (bs : List ℕ) → joined x y ≡ Ok bs → Parts x y bs
 parts (Ok h) (Ok b) bs e = record { head = h; body = b; head_is = refl; body_is = refl; whole = cc }
-parts (Ok h) (Err d) bs e = let z : ◌≡◌ {A = ℕ} 0 1 = cc in absurd (omega arith)
-parts (Err d) y bs e = let z : ◌≡◌ {A = ℕ} 0 1 = cc in absurd (omega arith)
+parts (Ok h) (Err d) bs e = absurd (grind arith)
+parts (Err d) y bs e = absurd (grind arith)
 
 idle_only : (i : Instruction) (b : List ℕ) → idle_body (form_of i) ≡ Ok b → (i ≡ NoOperation) × (b ≡ [])
 idle_only NoOperation b e = (refl, cc)
-idle_only Reset b e = grind (arith, nat_tests)
-idle_only HardReset b e = grind (arith, nat_tests)
-idle_only (AdvancedAddressing on) b e = grind (arith, nat_tests)
-idle_only AcknowledgmentRequest b e = grind (arith, nat_tests)
-idle_only (Consist reversed address) b e = grind (arith, nat_tests)
-idle_only (Speed forward code) b e = grind (arith, nat_tests)
-idle_only (Speed126 forward code) b e = grind (arith, nat_tests)
-idle_only (Functions group bits) b e = grind (arith, nat_tests)
-idle_only (BinaryStateShort on number) b e = grind (arith, nat_tests)
-idle_only (BinaryStateLong on number) b e = grind (arith, nat_tests)
-idle_only (AccelerationAdjustment value) b e = grind (arith, nat_tests)
-idle_only (DecelerationAdjustment value) b e = grind (arith, nat_tests)
-idle_only (VerifyByte cv value) b e = grind (arith, nat_tests)
-idle_only (WriteByte cv value) b e = grind (arith, nat_tests)
-idle_only (VerifyBit cv bit value) b e = grind (arith, nat_tests)
-idle_only (WriteBit cv bit value) b e = grind (arith, nat_tests)
-idle_only (Output number on) b e = grind (arith, nat_tests)
-idle_only (Aspect number) b e = grind (arith, nat_tests)
+idle_only _ b e = grind (arith, nat_tests)
 
 output_bits_lem : (f : Form) → output_bits f < 16
-output_bits_lem nothing = omega arith
-output_bits_lem (mobile_only bs) = omega arith
-output_bits_lem (anyone bs) = omega arith
-output_bits_lem (output number true) = omega arith
-output_bits_lem (output number false) = omega arith
-output_bits_lem (aspect number) = omega arith
+output_bits_lem f = grind (arith, nat_tests)
 
 addressed_back : (t : Target) (i : Instruction) (h b : List ℕ) → head_of t (form_of i) ≡ Ok h → body_of t (form_of i) ≡ Ok b → addressed (h ++ b) ≡ Ok (packet_of t i)
 unfolding addressed long accessory
@@ -81,20 +59,10 @@ head_length (Basic address) = 2
 head_length (Extended address) = 2
 
 head_short : (t : Target) → head_length t ≤ 2
-head_short Idle = omega arith
-head_short Broadcast = omega arith
-head_short (Short address) = omega arith
-head_short (Long address) = omega arith
-head_short (Basic address) = omega arith
-head_short (Extended address) = omega arith
+head_short t = grind arith
 
 head_length_lem : (t : Target) (f : Form) (h : List ℕ) → head_of t f ≡ Ok h → length h ≡ head_length t
-head_length_lem Idle f h e = grind (arith, nat_tests)
-head_length_lem Broadcast f h e = grind (arith, nat_tests)
-head_length_lem (Short address) f h e = grind (arith, nat_tests)
-head_length_lem (Long address) f h e = grind (arith, nat_tests)
-head_length_lem (Basic address) f h e = grind (arith, nat_tests)
-head_length_lem (Extended address) f h e = grind (arith, nat_tests)
+head_length_lem t f h e = grind (arith, nat_tests)
 
 -- an instruction has at most three bytes, and to a mobile decoder at least one
 abbrev Sized : Coded → Type 0
@@ -115,67 +83,42 @@ functions_sized : (g : FunctionGroup) (bits : ℕ) → Sized (function_bytes g b
 functions_sized F0ToF4 bits = below_sized bits 32 _ (omega arith) (omega arith)
 functions_sized F5ToF8 bits = below_sized bits 16 _ (omega arith) (omega arith)
 functions_sized F9ToF12 bits = below_sized bits 16 _ (omega arith) (omega arith)
-functions_sized F13ToF20 bits = (omega arith, omega arith)
-functions_sized F21ToF28 bits = (omega arith, omega arith)
-functions_sized F29ToF36 bits = (omega arith, omega arith)
-functions_sized F37ToF44 bits = (omega arith, omega arith)
-functions_sized F45ToF52 bits = (omega arith, omega arith)
-functions_sized F53ToF60 bits = (omega arith, omega arith)
-functions_sized F61ToF68 bits = (omega arith, omega arith)
+functions_sized _ bits = (omega arith, omega arith)
 
 form_sized : (i : Instruction) → SizedForm (form_of i)
 form_sized NoOperation = tt
-form_sized Reset = (omega arith, omega arith)
-form_sized HardReset = (omega arith, omega arith)
-form_sized (AdvancedAddressing on) = (omega arith, omega arith)
-form_sized AcknowledgmentRequest = (omega arith, omega arith)
 form_sized (Consist reversed address) = below_sized address 128 _ (omega arith) (omega arith)
 form_sized (Speed forward code) = below_sized code 32 _ (omega arith) (omega arith)
 form_sized (Speed126 forward code) = below_sized code 128 _ (omega arith) (omega arith)
 form_sized (Functions group bits) = functions_sized group bits
 form_sized (BinaryStateShort on number) = below_sized number 128 _ (omega arith) (omega arith)
 form_sized (BinaryStateLong on number) = below_sized number 32768 _ (omega arith) (omega arith)
-form_sized (AccelerationAdjustment value) = (omega arith, omega arith)
-form_sized (DecelerationAdjustment value) = (omega arith, omega arith)
-form_sized (VerifyByte cv value) = (omega arith, omega arith)
-form_sized (WriteByte cv value) = (omega arith, omega arith)
 form_sized (VerifyBit cv bit value) = below_sized bit 8 _ (omega arith) (omega arith)
 form_sized (WriteBit cv bit value) = below_sized bit 8 _ (omega arith) (omega arith)
 form_sized (Output number on) = tt
 form_sized (Aspect number) = tt
+form_sized _ = (omega arith, omega arith)
 
 sized_ok : (x : Coded) (bs : List ℕ) → Sized x → x ≡ Ok bs → (1 ≤ length bs) × (length bs ≤ 3)
 sized_ok (Ok xs) bs s e = let p : xs ≡ bs = cc in rw (sym p) s
-sized_ok (Err d) bs s e = let z : ◌≡◌ {A = ℕ} 0 1 = cc in absurd (omega arith)
+sized_ok (Err d) bs s e = absurd (grind arith)
 
 -- the whole without its error byte has two to five bytes
 mobile-length : (f : Form) (b : List ℕ) → SizedForm f → mobile_body f ≡ Ok b → (1 ≤ length b) × (length b ≤ 3)
-mobile-length nothing b s e = grind (arith, nat_tests)
 mobile-length (mobile_only bs) b s e = sized_ok bs b s e
 mobile-length (anyone bs) b s e = sized_ok bs b s e
-mobile-length (output number on) b s e = grind (arith, nat_tests)
-mobile-length (aspect number) b s e = grind (arith, nat_tests)
+mobile-length _ b s e = grind (arith, nat_tests)
 
 basic-length : (f : Form) (b : List ℕ) → SizedForm f → basic_body f ≡ Ok b → length b ≤ 3
-basic-length nothing b s e = grind (arith, nat_tests)
-basic-length (mobile_only bs) b s e = grind (arith, nat_tests)
 basic-length (anyone bs) b s e = (sized_ok bs b s e).1
-basic-length (output number on) b s e = grind (arith, nat_tests)
-basic-length (aspect number) b s e = grind (arith, nat_tests)
+basic-length _ b s e = grind (arith, nat_tests)
 
 extended-length : (f : Form) (b : List ℕ) → SizedForm f → extended_body f ≡ Ok b → length b ≤ 3
-extended-length nothing b s e = grind (arith, nat_tests)
-extended-length (mobile_only bs) b s e = grind (arith, nat_tests)
 extended-length (anyone bs) b s e = (sized_ok bs b s e).1
-extended-length (output number on) b s e = grind (arith, nat_tests)
-extended-length (aspect number) b s e = grind (arith, nat_tests)
+extended-length _ b s e = grind (arith, nat_tests)
 
 body_length : (t : Target) (f : Form) (b : List ℕ) → SizedForm f → body_of t f ≡ Ok b → (2 ≤ head_length t + length b) × (length b ≤ 3)
-body_length Idle nothing b s e = grind (arith, nat_tests)
-body_length Idle (mobile_only bs) b s e = grind (arith, nat_tests)
-body_length Idle (anyone bs) b s e = grind (arith, nat_tests)
-body_length Idle (output number on) b s e = grind (arith, nat_tests)
-body_length Idle (aspect number) b s e = grind (arith, nat_tests)
+body_length Idle f b s e = grind (arith, nat_tests)
 body_length Broadcast f b s e = let l = mobile-length f b s e in (omega arith, l.1)
 body_length (Short address) f b s e = let l = mobile-length f b s e in (omega arith, l.1)
 body_length (Long address) f b s e = let l = mobile-length f b s e in (omega arith, l.1)

@@ -5,9 +5,5 @@ ghost use Rattle.packet.specs.Parity.{parity as parity_of};
 pub fn parity(bytes: &[u8]) -> u8
     ensures { result ≡ parity_of bytes.now }
 {
-    let mut all = 0;
-    for byte in bytes {
-        all ^= *byte;
-    }
-    all
+    bytes.iter().fold(0, |all, byte| all ^ byte)
 }

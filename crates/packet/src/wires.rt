@@ -3,6 +3,7 @@ ghost use Rattle.packet.specs.Wires.{number_in, if_number, number_of, wire_of, w
 
 use crate::cv::{CvNumber, WireAddress};
 
+// `new` and `get` as std's `NonZeroU16` has them: a `TryFrom<u16>` would need an error that says no more than `None`.
 impl CvNumber {
     /// The variable of that number, if there is one.
     pub fn new(number: u16) -> Option<CvNumber>
@@ -20,13 +21,26 @@ impl CvNumber {
     {
         self.number
     }
+}
 
-    /// The address by which packets name the variable: its number less one.
-    pub fn wire(self) -> WireAddress
-        ensures { result ≡ wire_of self }
-    {
+/// The address by which packets name the variable: its number less one.
+impl From<CvNumber> for WireAddress {
+    ghost from_gives = { λ cv wire. wire ≡ wire_of cv };
+
+    fn from(cv: CvNumber) -> WireAddress {
         WireAddress {
-            address: self.number - 1,
+            address: cv.number - 1,
+        }
+    }
+}
+
+/// The variable at the address: the number is one more.
+impl From<WireAddress> for CvNumber {
+    ghost from_gives = { λ wire cv. cv ≡ number_of wire };
+
+    fn from(wire: WireAddress) -> CvNumber {
+        CvNumber {
+            number: wire.address + 1,
         }
     }
 }
@@ -37,7 +51,7 @@ impl WireAddress {
         ensures { result ≡ wire_at first second }
     {
         WireAddress {
-            address: 256 * u16::from(first % 4) + u16::from(second),
+            address: u16::from_be_bytes([first % 4, second]),
         }
     }
 
@@ -45,15 +59,6 @@ impl WireAddress {
     pub fn to_bytes(self) -> (u8, u8)
         ensures { result ≡ wire_bytes self }
     {
-        ((self.address / 256) as u8, (self.address % 256) as u8)
-    }
-
-    /// The variable at the address: the number is one more.
-    pub fn number(self) -> CvNumber
-        ensures { result ≡ number_of self }
-    {
-        CvNumber {
-            number: self.address + 1,
-        }
+        self.address.to_be_bytes().into()
     }
 }

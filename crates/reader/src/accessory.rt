@@ -1,8 +1,8 @@
 ghost use Rattle.std.specs.Prelude.{◌≡◌};
 ghost use Rattle.format.specs.Reading.{basic as basic_of, extended as extended_of, basic_address, extended_address, is_extended_head, accessory as accessory_of};
 
-use crate::mobile::alone;
-use crate::reading::with_target;
+use crate::lengths::alone;
+use crate::reading::told;
 use crate::variables::cv_access;
 use fault::Refusal;
 use packet::{Instruction, Packet, Target};
@@ -11,28 +11,25 @@ use packet::{Instruction, Packet, Target};
 fn basic(head: u8, rest: &[u8]) -> Result<Instruction, Refusal>
     ensures { result ≡ basic_of head rest.now }
 {
-    if rest.is_empty() {
-        return Ok(Instruction::Output {
+    match rest {
+        [] => Ok(Instruction::Output {
             output: head % 8,
             on: head / 8 % 2 == 1,
-        });
+        }),
+        _ if head % 16 == 0 => cv_access(rest),
+        _ => Err(Refusal::InstructionLength),
     }
-    if head % 16 != 0 {
-        return Err(Refusal::InstructionLength);
-    }
-    cv_access(rest)
 }
 
 /// What stands behind the head of an extended accessory decoder.
+#[tactic(auto, unfolding(format::specs::Reading::extended))]
 fn extended(bytes: &[u8]) -> Result<Instruction, Refusal>
     ensures { result ≡ extended_of bytes.now }
 {
     match bytes {
         [] => Err(Refusal::InstructionLength),
-        [first, rest @ ..] => match *first {
-            0..=0x1f => alone(Instruction::Aspect { aspect: *first }, rest),
-            _ => cv_access(bytes),
-        },
+        [aspect @ 0..=0x1f, rest @ ..] => alone(rest, Instruction::Aspect { aspect: *aspect }),
+        _ => cv_access(bytes),
     }
 }
 
@@ -55,29 +52,19 @@ fn is_extended_head(second: u8) -> bool
     second < 0x80 && second / 8 % 2 == 0 && second % 2 == 1
 }
 
+#[tactic(auto, unfolding(format::specs::Reading::accessory))]
 pub(crate) fn accessory(first: u8, rest: &[u8]) -> Result<Packet, Refusal>
     ensures { result ≡ accessory_of first rest.now }
 {
     match rest {
-        [] => Err(Refusal::AccessoryHead),
-        [second, rest @ ..] => {
-            if *second >= 0x80 {
-                return with_target(
-                    Target::Basic {
-                        address: basic_address(first, *second),
-                    },
-                    basic(*second, rest),
-                );
-            }
-            if is_extended_head(*second) {
-                return with_target(
-                    Target::Extended {
-                        address: extended_address(first, *second),
-                    },
-                    extended(rest),
-                );
-            }
-            Err(Refusal::AccessoryHead)
+        [second @ 0x80.., rest @ ..] => {
+            let address = basic_address(first, *second);
+            told(Target::Basic { address }, basic(*second, rest))
         }
+        [second, rest @ ..] if is_extended_head(*second) => {
+            let address = extended_address(first, *second);
+            told(Target::Extended { address }, extended(rest))
+        }
+        _ => Err(Refusal::AccessoryHead),
     }
 }

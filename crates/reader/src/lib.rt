@@ -3,6 +3,7 @@
 #![tactic(auto)]
 
 mod accessory;
+mod lengths;
 mod mobile;
 mod reading;
 mod variables;

@@ -1,5 +1,5 @@
-ghost use Rattle.std.specs.Prelude.{◌≡◌, ◌+◌, ◌-◌, ◌*◌, ◌≤◌};
-ghost use Rattle.format.specs.Reading.{told, long as long_of, idle as idle_of, by_address, addressed as addressed_of, packet_read};
+ghost use Rattle.std.specs.Prelude.{◌≡◌, ◌≤◌};
+ghost use Rattle.format.specs.Reading.{told as told_of, long as long_of, idle as idle_of, by_address, addressed as addressed_of, packet_read};
 ghost use Rattle.format.specs.Laws.{WrittenBack, AllAccepted};
 ghost use Rattle.format.specs.Refusing.{refusal_in, first_cause, causes};
 
@@ -8,35 +8,27 @@ use crate::mobile::mobile;
 use fault::Refusal;
 use packet::{Instruction, Packet, Target, parity};
 
-pub(crate) fn with_target(
-    target: Target,
-    asked: Result<Instruction, Refusal>,
-) -> Result<Packet, Refusal>
-    ensures { result ≡ told target asked }
+/// A target with the instruction that comes after it.
+pub(crate) fn told(target: Target, asked: Result<Instruction, Refusal>) -> Result<Packet, Refusal>
+    ensures { result ≡ told_of target asked }
 {
-    let instruction = asked?;
-    Ok(Packet {
+    asked.map(|instruction| Packet {
         target,
         instruction,
     })
 }
 
-fn long_target(first: u8, second: u8) -> Target
-    requires { 0xc0 ≤ first }
-    ensures { result ≡ Target.Long (256 * (first - 0xc0) + second) }
-{
-    Target::Long {
-        address: 256 * u16::from(first - 0xc0) + u16::from(second),
-    }
-}
-
+#[tactic(auto, unfolding(format::specs::Reading::long))]
 fn long(first: u8, rest: &[u8]) -> Result<Packet, Refusal>
     requires { 0xc0 ≤ first }
     ensures { result ≡ long_of first rest.now }
 {
     match rest {
         [] => Err(Refusal::NoInstruction),
-        [second, rest @ ..] => with_target(long_target(first, *second), mobile(rest)),
+        [second, rest @ ..] => {
+            let address = u16::from_be_bytes([first - 0xc0, *second]);
+            told(Target::Long { address }, mobile(rest))
+        }
     }
 }
 
@@ -56,8 +48,8 @@ fn by_address(first: u8, rest: &[u8]) -> Result<Packet, Refusal>
     ensures { result ≡ by_address first rest.now }
 {
     match first {
-        0x00 => with_target(Target::Broadcast, mobile(rest)),
-        0x01..=0x7f => with_target(Target::Short { address: first }, mobile(rest)),
+        0x00 => told(Target::Broadcast, mobile(rest)),
+        0x01..=0x7f => told(Target::Short { address: first }, mobile(rest)),
         0x80..=0xbf => accessory(first, rest),
         0xc0..=0xe7 => long(first, rest),
         0xe8..=0xfc => Err(Refusal::ReservedAddress),
@@ -66,6 +58,7 @@ fn by_address(first: u8, rest: &[u8]) -> Result<Packet, Refusal>
     }
 }
 
+#[tactic(auto, unfolding(format::specs::Reading::addressed))]
 fn addressed(bytes: &[u8]) -> Result<Packet, Refusal>
     ensures { result ≡ addressed_of bytes.now }
 {
@@ -78,13 +71,13 @@ fn addressed(bytes: &[u8]) -> Result<Packet, Refusal>
 fn decode(packet: &[u8]) -> Result<Packet, Refusal>
     ensures { result ≡ packet_read packet.now }
 {
-    if packet.len() < 3 || packet.len() > 6 {
+    if !(3..=6).contains(&packet.len()) {
         return Err(Refusal::PacketLength);
     }
     if parity(packet) != 0 {
         return Err(Refusal::ErrorByte);
     }
-    addressed(&packet[0..packet.len() - 1])
+    addressed(&packet[..packet.len() - 1])
 }
 
 /// What a packet says, or the first cause for which it is refused. What it accepts is exactly what `write` writes.

@@ -2,13 +2,14 @@ ghost use Rattle.std.specs.Prelude.{◌≡◌};
 ghost use Rattle.packet.specs.Wires.{cv_at};
 ghost use Rattle.format.specs.Reading.{bit_operation as bit_operation_of, long_form, cv_access};
 
+use crate::lengths::with_two;
 use fault::Refusal;
 use packet::{CvNumber, Instruction, WireAddress};
 
 fn cv_at(first: u8, second: u8) -> CvNumber
     ensures { result ≡ cv_at first second }
 {
-    WireAddress::from_bytes(first, second).number()
+    WireAddress::from_bytes(first, second).into()
 }
 
 fn bit_operation(first: u8, second: u8, last: u8) -> Result<Instruction, Refusal>
@@ -28,30 +29,31 @@ fn bit_operation(first: u8, second: u8, last: u8) -> Result<Instruction, Refusal
 pub(crate) fn long_form(first: u8, rest: &[u8]) -> Result<Instruction, Refusal>
     ensures { result ≡ long_form first rest.now }
 {
-    match rest {
-        [second, last] => match first {
-            0..=0xe7 => Ok(Instruction::VerifyByte {
-                cv: cv_at(first, *second),
-                value: *last,
-            }),
-            0xe8..=0xeb => bit_operation(first, *second, *last),
-            _ => Ok(Instruction::WriteByte {
-                cv: cv_at(first, *second),
-                value: *last,
-            }),
-        },
-        _ => Err(Refusal::InstructionLength),
+    match first {
+        0..=0xe7 => with_two(rest, |second, value| {
+            Ok(Instruction::VerifyByte {
+                cv: cv_at(first, second),
+                value,
+            })
+        }),
+        0xe8..=0xeb => with_two(rest, |second, last| bit_operation(first, second, last)),
+        _ => with_two(rest, |second, value| {
+            Ok(Instruction::WriteByte {
+                cv: cv_at(first, second),
+                value,
+            })
+        }),
     }
 }
 
+/// A long form and no other instruction.
+#[tactic(auto, unfolding(format::specs::Reading::cv_access))]
 pub(crate) fn cv_access(bytes: &[u8]) -> Result<Instruction, Refusal>
     ensures { result ≡ cv_access bytes.now }
 {
     match bytes {
         [] => Err(Refusal::InstructionLength),
-        [first, rest @ ..] => match *first {
-            0xe4..=0xef => long_form(*first, rest),
-            _ => Err(Refusal::ReservedInstruction),
-        },
+        [first @ 0xe4..=0xef, rest @ ..] => long_form(*first, rest),
+        _ => Err(Refusal::ReservedInstruction),
     }
 }

@@ -1,2 +1,1 @@
-pub mod Codings
 pub mod Places

@@ -1,23 +1,13 @@
--- What two copies and a write leave in a place.
-use Rattle.std.proofs.Common.{◌≡◌, ℕ, ◌+◌, ◌-◌, ◌<◌, ◌≤◌, List, [], ◌∷◌, ◌++◌, length, drop, set, refl, arith}
-use borrow.Rule.Slice.PartMut.{put_mid, post_of}
-use Rattle.std.proofs.lemmas.List.{take_at, drop_at, drop-drop, append_assoc, length-append, drop_more, set_at}
+-- What two copies and a write leave in a place that was split behind each copy. Assumes nothing.
+use Rattle.std.proofs.Common.{◌≡◌, ℕ, ◌+◌, ◌<◌, List, [], ◌∷◌, ◌++◌, length, drop, set, refl, ap, ◌∙◌}
+use Rattle.std.proofs.lemmas.List.{append_assoc, drop-drop, drop_more}
 
-module _ (hs bs place : List ℕ) (fits : length hs + length bs + 1 ≤ length place) where
-  pub two_copied :
-      put_mid (length hs) (length hs + length bs - length hs) (hs ++ post_of 0 (length hs - 0) place) bs
-      ≡ hs ++ bs ++ drop (length hs + length bs) place
-  two_copied =
-      let e : length hs + length bs - length hs ≡ length bs = omega arith in
-      let z : length hs - 0 ≡ length hs = omega arith in
-      rw (e, z, take_at hs (drop (length hs) place) (length hs) refl, drop_at hs (drop (length hs) place) (length hs) refl, drop-drop, append_assoc)
-
-  pub packet_put :
-      (x : ℕ)
-      → set
-      (put_mid (length hs) (length hs + length bs - length hs) (hs ++ post_of 0 (length hs - 0) place) bs)
-      (length hs + length bs) x
-      ≡ hs ++ bs ++ (x ∷ []) ++ drop (length hs + length bs + 1) place
-  packet_put x =
-      let h : length hs + length bs < length place = omega arith in
-      rw (two_copied, drop_more place (length hs + length bs) 0 h, set_at (hs ++ bs) _ _ x (length hs + length bs) (length-append hs bs), append_assoc (hs ++ bs))
+pub packet_put :
+    (hs bs behind rest place : List ℕ) (x : ℕ)
+    → behind ≡ drop (length hs) place
+    → rest ≡ drop (length bs) behind
+    → length hs + length bs < length place
+    → hs ++ (bs ++ set rest 0 x) ≡ hs ++ bs ++ (x ∷ []) ++ drop (length hs + length bs + 1) place
+packet_put hs bs behind rest place x p q l =
+    let e = q ∙ ap (drop (length bs)) p ∙ drop-drop (length bs) (length hs) place ∙ drop_more place (length hs + length bs) 0 l in
+    rw e (simp append_assoc refl)

@@ -1,17 +1,8 @@
--- The bytes in a short buffer.
-use Rattle.std.specs.Prelude.{ℕ, List, ◌++◌, take, Ok, Err, Result}
+-- The bytes that were made for a target or an instruction.
+use Rattle.std.specs.Prelude.{ℕ, List, Ok, Err, Result}
+use Rattle.arrayvec.specs.ArrayVec.{ArrayVec}
 use Rattle.fault.specs.declared.refusal.Refusal.{Refusal}
-use Rattle.writer.specs.declared.bytes.Bytes.{Bytes}
-use Rattle.packet.specs.Parity.{sealed}
 
-abbrev pub contents : Bytes → List ℕ
-contents b = take b.count b.items
-
-abbrev pub listed : Result Bytes Refusal → Result (List ℕ) Refusal
-listed (Ok b) = Ok (contents b)
+abbrev pub listed : Result (ArrayVec ℕ) Refusal → Result (List ℕ) Refusal
+listed (Ok b) = Ok b.items
 listed (Err e) = Err e
-
--- the packet of two parts
-abbrev pub paired : Result (Bytes × Bytes) Refusal → Result (List ℕ) Refusal
-paired (Ok p) = Ok (sealed (contents p.0 ++ contents p.1))
-paired (Err e) = Err e

@@ -1,10 +1,10 @@
 ghost use Rattle.std.specs.Prelude.{◌≡◌, ◌≤◌};
 ghost use Rattle.format.specs.Writing.{flag as flag_of, at_cv, at_bit, cv_body, function_bytes, form_of, idle_body, mobile_body, basic_body, extended_body, body_of};
-ghost use Rattle.writer.specs.Contents.{contents, listed};
+ghost use Rattle.writer.specs.Contents.{listed};
 
-use crate::bytes::Bytes;
+use crate::bytes::{Bytes, bytes};
 use fault::Refusal;
-use packet::{CvNumber, FunctionGroup, Instruction, Target};
+use packet::{CvNumber, FunctionGroup, Instruction, Target, WireAddress};
 
 /// A bit of a byte, by its weight.
 pub(crate) fn flag(on: bool, weight: u8) -> u8
@@ -16,10 +16,10 @@ pub(crate) fn flag(on: bool, weight: u8) -> u8
 /// A long-form instruction on a variable.
 fn at_cv(first: u8, cv: CvNumber, last: u8) -> Bytes
     requires { first ≤ 0xec }
-    ensures { contents result ≡ at_cv first cv last }
+    ensures { result.items ≡ at_cv first cv last }
 {
-    let (upper, lower) = cv.wire().to_bytes();
-    Bytes::three(first + upper, lower, last)
+    let (upper, lower) = WireAddress::from(cv).to_bytes();
+    bytes([first + upper, lower, last])
 }
 
 fn at_bit(form: u8, cv: CvNumber, bit: u8, value: bool) -> Result<Bytes, Refusal>
@@ -36,19 +36,19 @@ fn function_bytes(group: FunctionGroup, bits: u8) -> Result<Bytes, Refusal>
     ensures { listed result ≡ function_bytes group bits }
 {
     match group {
-        FunctionGroup::F0ToF4 if bits < 32 => Ok(Bytes::one(0x80 + bits)),
-        FunctionGroup::F5ToF8 if bits < 16 => Ok(Bytes::one(0xb0 + bits)),
-        FunctionGroup::F9ToF12 if bits < 16 => Ok(Bytes::one(0xa0 + bits)),
+        FunctionGroup::F0ToF4 if bits < 32 => Ok(bytes([0x80 + bits])),
+        FunctionGroup::F5ToF8 if bits < 16 => Ok(bytes([0xb0 + bits])),
+        FunctionGroup::F9ToF12 if bits < 16 => Ok(bytes([0xa0 + bits])),
         FunctionGroup::F0ToF4 | FunctionGroup::F5ToF8 | FunctionGroup::F9ToF12 => Err(
             Refusal::FieldOutOfRange,
         ),
-        FunctionGroup::F13ToF20 => Ok(Bytes::two(0xde, bits)),
-        FunctionGroup::F21ToF28 => Ok(Bytes::two(0xdf, bits)),
-        FunctionGroup::F29ToF36 => Ok(Bytes::two(0xd8, bits)),
-        FunctionGroup::F37ToF44 => Ok(Bytes::two(0xd9, bits)),
-        FunctionGroup::F45ToF52 => Ok(Bytes::two(0xda, bits)),
-        FunctionGroup::F53ToF60 => Ok(Bytes::two(0xdb, bits)),
-        FunctionGroup::F61ToF68 => Ok(Bytes::two(0xdc, bits)),
+        FunctionGroup::F13ToF20 => Ok(bytes([0xde, bits])),
+        FunctionGroup::F21ToF28 => Ok(bytes([0xdf, bits])),
+        FunctionGroup::F29ToF36 => Ok(bytes([0xd8, bits])),
+        FunctionGroup::F37ToF44 => Ok(bytes([0xd9, bits])),
+        FunctionGroup::F45ToF52 => Ok(bytes([0xda, bits])),
+        FunctionGroup::F53ToF60 => Ok(bytes([0xdb, bits])),
+        FunctionGroup::F61ToF68 => Ok(bytes([0xdc, bits])),
     }
 }
 
@@ -69,7 +69,7 @@ fn idle_body(instruction: Instruction) -> Result<Bytes, Refusal>
     ensures { listed result ≡ idle_body (form_of instruction) }
 {
     match instruction {
-        Instruction::NoOperation => Ok(Bytes::none()),
+        Instruction::NoOperation => Ok(bytes([])),
         _ => Err(Refusal::FieldOutOfRange),
     }
 }
@@ -78,43 +78,37 @@ fn mobile_body(instruction: Instruction) -> Result<Bytes, Refusal>
     ensures { listed result ≡ mobile_body (form_of instruction) }
 {
     match instruction {
-        Instruction::Reset => Ok(Bytes::one(0x00)),
-        Instruction::HardReset => Ok(Bytes::one(0x01)),
-        Instruction::AdvancedAddressing { on } => Ok(Bytes::one(0x0a + flag(on, 1))),
-        Instruction::AcknowledgmentRequest => Ok(Bytes::one(0x0f)),
-        Instruction::Consist {
-            reversed,
-            address: address @ 0..=127,
-        } => { Ok(Bytes::two(0x12 + flag(reversed, 1), address)) }
-        Instruction::Speed {
-            forward,
-            code: code @ 0..=31,
-        } => Ok(Bytes::one(0x40 + flag(forward, 0x20) + code)),
-        Instruction::Speed126 {
-            forward,
-            code: code @ 0..=127,
-        } => Ok(Bytes::two(0x3f, flag(forward, 128) + code)),
+        Instruction::Reset => Ok(bytes([0x00])),
+        Instruction::HardReset => Ok(bytes([0x01])),
+        Instruction::AdvancedAddressing { on } => Ok(bytes([0x0a + flag(on, 1)])),
+        Instruction::AcknowledgmentRequest => Ok(bytes([0x0f])),
+        Instruction::Consist { reversed, address } if address < 128 => Ok(bytes([
+            0x12 + flag(reversed, 1),
+            address,
+        ])),
+        Instruction::Speed { forward, code } if code < 32 => Ok(bytes([
+            0x40 + flag(forward, 0x20) + code,
+        ])),
+        Instruction::Speed126 { forward, code } if code < 128 => Ok(bytes([
+            0x3f,
+            flag(forward, 128) + code,
+        ])),
         Instruction::Functions { group, bits } => function_bytes(group, bits),
-        Instruction::BinaryStateShort {
-            on,
-            number: number @ 0..=127,
-        } => { Ok(Bytes::two(0xdd, flag(on, 128) + number)) }
-        Instruction::BinaryStateLong {
-            on,
-            number: number @ 0..=32767,
-        } => {
-            Ok(Bytes::three(
-                0xc0,
-                flag(on, 128) + (number % 128) as u8,
-                (number / 128) as u8,
-            ))
-        }
-        Instruction::AccelerationAdjustment { value } => Ok(Bytes::two(0xf2, value)),
-        Instruction::DecelerationAdjustment { value } => Ok(Bytes::two(0xf3, value)),
-        Instruction::VerifyByte { .. } => cv_body(instruction),
-        Instruction::WriteByte { .. } => cv_body(instruction),
-        Instruction::VerifyBit { .. } => cv_body(instruction),
-        Instruction::WriteBit { .. } => cv_body(instruction),
+        Instruction::BinaryStateShort { on, number } if number < 128 => Ok(bytes([
+            0xdd,
+            flag(on, 128) + number,
+        ])),
+        Instruction::BinaryStateLong { on, number } if number < 32768 => Ok(bytes([
+            0xc0,
+            flag(on, 128) + (number % 128) as u8,
+            (number / 128) as u8,
+        ])),
+        Instruction::AccelerationAdjustment { value } => Ok(bytes([0xf2, value])),
+        Instruction::DecelerationAdjustment { value } => Ok(bytes([0xf3, value])),
+        Instruction::VerifyByte { .. }
+        | Instruction::WriteByte { .. }
+        | Instruction::VerifyBit { .. }
+        | Instruction::WriteBit { .. } => cv_body(instruction),
         _ => Err(Refusal::FieldOutOfRange),
     }
 }
@@ -123,7 +117,7 @@ fn basic_body(instruction: Instruction) -> Result<Bytes, Refusal>
     ensures { listed result ≡ basic_body (form_of instruction) }
 {
     match instruction {
-        Instruction::Output { output: 0..=7, .. } => Ok(Bytes::none()),
+        Instruction::Output { output: 0..=7, .. } => Ok(bytes([])),
         _ => cv_body(instruction),
     }
 }
@@ -132,8 +126,7 @@ fn extended_body(instruction: Instruction) -> Result<Bytes, Refusal>
     ensures { listed result ≡ extended_body (form_of instruction) }
 {
     match instruction {
-        Instruction::Aspect { aspect } if aspect < 32 => Ok(Bytes::one(aspect)),
-        Instruction::Aspect { .. } => Err(Refusal::FieldOutOfRange),
+        Instruction::Aspect { aspect } if aspect < 32 => Ok(bytes([aspect])),
         _ => cv_body(instruction),
     }
 }

@@ -1,9 +1,13 @@
-ghost use Rattle.std.specs.Prelude.{◌≤◌};
+ghost use Rattle.std.specs.Prelude.{◌≡◌, ◌≤◌};
 
-/// At most three bytes: the target's, or the instruction's.
-#[derive(Clone, Copy)]
-pub struct Bytes {
-    pub(crate) items: [u8; 3],
-    pub(crate) count: usize,
-    ghost fits: { count ≤ 3 },
+use arrayvec::ArrayVec;
+
+/// The bytes of a target or of an instruction.
+pub(crate) type Bytes = ArrayVec<u8, 3>;
+
+pub(crate) fn bytes<const N: usize>(items: [u8; N]) -> Bytes
+    requires { N ≤ 3 }
+    ensures { result.items ≡ items.entry }
+{
+    ArrayVec::try_from(&items[..]).unwrap()
 }

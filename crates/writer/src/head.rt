@@ -3,7 +3,7 @@ ghost use Rattle.format.specs.Writing.{form_of, output_bits, head_of};
 ghost use Rattle.writer.specs.Contents.{listed};
 
 use crate::body::flag;
-use crate::bytes::Bytes;
+use crate::bytes::{Bytes, bytes};
 use fault::Refusal;
 use packet::{Instruction, Target};
 
@@ -21,26 +21,21 @@ pub(crate) fn head(target: Target, instruction: Instruction) -> Result<Bytes, Re
     ensures { listed result ≡ head_of target (form_of instruction) }
 {
     match target {
-        Target::Idle => Ok(Bytes::two(0xff, 0x00)),
-        Target::Broadcast => Ok(Bytes::one(0x00)),
-        Target::Short {
-            address: address @ 1..=127,
-        } => Ok(Bytes::one(address)),
-        Target::Long {
-            address: address @ 0..=10239,
-        } => { Ok(Bytes::two(0xc0 + (address / 256) as u8, (address % 256) as u8)) }
-        Target::Basic {
-            address: address @ 0..=511,
-        } => Ok(Bytes::two(
+        Target::Idle => Ok(bytes([0xff, 0x00])),
+        Target::Broadcast => Ok(bytes([0x00])),
+        Target::Short { address } if (1..128).contains(&address) => Ok(bytes([address])),
+        Target::Long { address } if address < 10240 => {
+            let [high, low] = address.to_be_bytes();
+            Ok(bytes([0xc0 + high, low]))
+        }
+        Target::Basic { address } if address < 512 => Ok(bytes([
             0x80 + (address % 64) as u8,
             0x80 + 16 * (7 - address / 64) as u8 + output_bits(instruction),
-        )),
-        Target::Extended {
-            address: address @ 0..=2047,
-        } => Ok(Bytes::two(
+        ])),
+        Target::Extended { address } if address < 2048 => Ok(bytes([
             0x80 + (address / 4 % 64) as u8,
             16 * (7 - address / 256) as u8 + 2 * (address % 4) as u8 + 1,
-        )),
+        ])),
         _ => Err(Refusal::FieldOutOfRange),
     }
 }

@@ -4,7 +4,6 @@
 
 mod body;
 mod bytes;
-mod contents;
 mod head;
 mod writing;
 

@@ -2,7 +2,6 @@ ghost use Rattle.std.specs.Prelude.{◌≡◌, ◌+◌, ◌≤◌, ◌++◌, len
 ghost use Rattle.packet.specs.Parity.{sealed};
 ghost use Rattle.format.specs.Laws.{ReadsBack};
 ghost use Rattle.format.specs.Writing.{encoded, answer, after};
-ghost use Rattle.writer.specs.Contents.{paired};
 
 use crate::body::body;
 use crate::bytes::Bytes;
@@ -10,31 +9,22 @@ use crate::head::head;
 use fault::Refusal;
 use packet::{Instruction, Target, parity};
 
-fn parts(target: Target, instruction: Instruction) -> Result<(Bytes, Bytes), Refusal>
-    ensures { paired result ≡ encoded target instruction }
-{
-    let head = head(target, instruction)?;
-    let body = body(target, instruction)?;
-    Ok((head, body))
-}
-
 /// Puts both parts and the error byte at the front of the place.
 fn put(head: &[u8], body: &[u8], place: &mut [u8])
     requires { length head.now + length body.now + 1 ≤ length place.old }
     ensures { place.new ≡ sealed (head.now ++ body.now) ++ drop (length head.now + length body.now + 1) place.old }
 {
-    let middle = head.len();
-    let end = middle + body.len();
-    place[0..middle].copy_from_slice(head);
-    place[middle..end].copy_from_slice(body);
-    place[end] = parity(head) ^ parity(body);
+    let (front, rest) = place.split_at_mut(head.len());
+    front.copy_from_slice(head);
+    let (middle, rest) = rest.split_at_mut(body.len());
+    middle.copy_from_slice(body);
+    rest[0] = parity(head) ^ parity(body);
 }
 
 /// Both parts and the error byte, if the place has room.
-fn place_parts(head: &[u8], body: &[u8], place: &mut [u8]) -> Result<usize, Refusal>
-    requires { (length head.now ≤ 3) × (length body.now ≤ 3) }
-    ensures answered { result ≡ answer (Ok (sealed (head.now ++ body.now))) place.old }
-    ensures placed { place.new ≡ after (Ok (sealed (head.now ++ body.now))) place.old }
+fn place_parts(head: &Bytes, body: &Bytes, place: &mut [u8]) -> Result<usize, Refusal>
+    ensures answered { result ≡ answer (Ok (sealed (head.now.items ++ body.now.items))) place.old }
+    ensures placed { place.new ≡ after (Ok (sealed (head.now.items ++ body.now.items))) place.old }
 {
     let total = head.len() + body.len() + 1;
     if place.len() < total {
@@ -44,17 +34,14 @@ fn place_parts(head: &[u8], body: &[u8], place: &mut [u8]) -> Result<usize, Refu
     Ok(total)
 }
 
+#[tactic(auto, unfolding(format::specs::Writing::encoded))]
 fn encode(target: Target, instruction: Instruction, place: &mut [u8]) -> Result<usize, Refusal>
     ensures answered { result ≡ answer (encoded target instruction) place.old }
     ensures placed { place.new ≡ after (encoded target instruction) place.old }
 {
-    match parts(target, instruction) {
-        Ok(both) => {
-            let (head, body) = both;
-            place_parts(head.as_slice(), body.as_slice(), place)
-        }
-        Err(refusal) => Err(refusal),
-    }
+    let head = head(target, instruction)?;
+    let body = body(target, instruction)?;
+    place_parts(&head, &body, place)
 }
 
 /// Puts the packet at the front of the place and answers its length; the rest of the place stays. A refusal leaves all

@@ -1,14 +1,10 @@
-use Rattle.std.proofs.Common.{◌<◌, ◌≤◌, length, sym, ◌∙◌, arith}
-use lib.Bits.{xor_assoc, xor_zero_r}
-use Rattle.std.proofs.lemmas.List.{drop_more, drop_all}
+use Rattle.std.proofs.Common.{◌≡◌, refl, rules, subst}
+use Rattle.std.proofs.lemmas.Fn.{fold_over, slice_gives, fronts}
+use Rattle.packet.specs.Parity.{parity}
+use Rattle.packet.proofs.Parities.{parity_more}
 use Rattle.packet.proofs.error_byte.parity.Goals as goal
 
-pub loop-byte-preserved : goal.loop-byte-preserved
-loop-byte-preserved c =
-    let l : c.loop-byte.byte-index < length c.args.bytes.now = omega arith in
-    rw xor_assoc (rw (drop_more c.args.bytes.now c.loop-byte.byte-index 0 l) at c.loop-byte.invariant)
-
 pub returns : goal.returns
-returns c =
-    let e : length c.args.bytes.now ≤ c.loop-byte.byte-index = omega arith in
-    sym (xor_zero_r c.loop-byte.all) ∙ rw (drop_all c.loop-byte.byte-index c.args.bytes.now e) at c.loop-byte.invariant
+returns c = subst (λ l. c.fold.result ≡ parity l) c.iter.ensures.rest
+    (fold_over fronts (λ y. y.now) _ (λ ys n. n ≡ parity ys) _ (λ ys a x b f' j k. let more = parity_more ys x.now in search rules)
+    _ _ _ _ (slice_gives c.iter.result) refl c.fold.ensures.ran)

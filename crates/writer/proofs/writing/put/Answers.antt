@@ -1,4 +1,4 @@
-use Rattle.std.proofs.Common.{rules}
+use Rattle.std.proofs.Common.{arith}
 use Rattle.packet.proofs.Parities.{parity-append}
 use Rattle.writer.proofs.Places.{packet_put}
 use Rattle.writer.proofs.writing.put.Goals as goal
@@ -7,4 +7,4 @@ pub returns : goal.returns
 returns c =
     simp
     (c.copy_from_slice.ensures.after, c.copy_from_slice-2.ensures.after, c.parity.ensures, c.parity-2.ensures, parity-append)
-    (packet_put c.args.head.now c.args.body.now c.args.place.now (search rules) _)
+    (packet_put _ _ _ _ c.args.place.now _ c.split_at_mut-front.ensures.back c.split_at_mut-middle.ensures.back (omega (arith, c.requires)))

@@ -2,10 +2,5 @@ use Rattle.std.proofs.Common.{sym, ◌∙◌}
 use Rattle.format.proofs.Placed.{placed_reads}
 use Rattle.writer.proofs.writing.write.Goals as goal
 
-pub returns : goal.returns
-returns c =
-    record {
-      answered = c.encode.ensures.answered;
-      placed = c.encode.ensures.placed;
-      reads_back = λ n e. placed_reads c.args.target c.args.instruction c.args.place.now _ n c.encode.ensures.placed (sym c.encode.ensures.answered ∙ e);
-    }
+pub returns-clause-reads_back : goal.returns-clause-reads_back
+returns-clause-reads_back c n e = placed_reads c.args.target c.args.instruction c.args.place.now _ n c.encode.ensures.placed (sym c.encode.ensures.answered ∙ e)
