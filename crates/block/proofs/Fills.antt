@@ -1,8 +1,9 @@
 -- The look for a byte that is not zero.
-use Rattle.std.proofs.Common.{◌≡◌, ℕ, zero, suc, ◌+◌, ◌<◌, ◌≤◌, cond, eqb, List, [], ◌∷◌, length, get_or, Some, None, Option, sym, refl, ◌∙◌, subst, ⊎_elim, arith}
+use Rattle.std.proofs.Common.{◌≡◌, ℕ, zero, suc, ◌+◌, ◌<◌, ◌≤◌, cond, eqb, List, [], ◌∷◌, length, get_or, Some, None, Option, Bool, true, false, not, option_map, position, sym, refl, ap, add-zero, ◌∙◌, subst, ⊎_elim, arith}
 use Rattle.std.proofs.lemmas.List.{at_drop_more, at_drop_all}
 use Rattle.std.proofs.lemmas.Bool.{cond-true, cond_both, eq-eqb, eqb-true, eqb-false, cases_lt}
-use Rattle.std.specs.List.{AllByRecursion}
+use Rattle.std.proofs.lemmas.Iterator.Adapters.{position_from-zero}
+use Rattle.std.specs.List.{AllByRecursion, position_from}
 use Rattle.block.specs.Contents.{first_nonzero, first_nonzero_from}
 use Rattle.block.specs.Tiling.{ZeroFrom}
 
@@ -46,3 +47,19 @@ pub nonzero_none : (o : ℕ) (xs : List ℕ) → AllByRecursion (λ x. x ≡ 0) 
 unfolding first_nonzero
 nonzero_none o [] h = refl
 nonzero_none o (x ∷ xs) h = cond-true _ _ _ (eq-eqb x 0 h.0) ∙ nonzero_none (o + 1) xs h.1
+
+-- `position` finds it
+nonzero_found : (o k : ℕ) (xs : List ℕ) → option_map (λ i. o + i) (position_from (λ x. not (eqb x 0)) k xs) ≡ first_nonzero (o + k) xs
+unfolding first_nonzero
+nonzero_found o k [] = refl
+nonzero_found o k (x ∷ xs) = go (eqb x 0) (nonzero_found o (k + 1) xs)
+  where
+    next : o + (k + 1) ≡ o + k + 1
+    next = omega arith
+
+    go : (z : Bool) → option_map (λ i. o + i) (position_from (λ x. not (eqb x 0)) (k + 1) xs) ≡ first_nonzero (o + (k + 1)) xs → option_map (λ i. o + i) (cond (not z) (Some k) (position_from (λ x. not (eqb x 0)) (k + 1) xs)) ≡ cond z (first_nonzero (o + k + 1) xs) (Some (o + k))
+    go true e = e ∙ ap (λ n. first_nonzero n xs) next
+    go false e = refl
+
+pub nonzero_position : (o : ℕ) (xs : List ℕ) → option_map (λ i. o + i) (position (λ x. not (eqb x 0)) xs) ≡ first_nonzero o xs
+nonzero_position o xs = rw position_from-zero (nonzero_found o 0 xs ∙ ap (λ n. first_nonzero n xs) (add-zero o))

@@ -1,40 +1,62 @@
--- One step of the count of packets.
-use Rattle.std.proofs.Common.{◌≡◌, ℕ, ◌+◌, ◌-◌, cond, eqb, List, [], length, get_or, take, drop, Some, None, Ok, Err, sym, refl, ap, ◌∙◌, subst, arith, Bor}
+-- Where the packets of a block stand.
+use Rattle.std.proofs.Common.{◌≡◌, ℕ, zero, suc, ◌+◌, ◌-◌, List, [], ◌∷◌, length, take, drop, slice_get, Some, None, Ok, Err, Option, Result, sym, refl, ap, ◌∙◌, arith, Bor}
+use Rattle.std.proofs.lemmas.List.{drop-drop}
+use Rattle.std.proofs.lemmas.Bool.{cond-false, ne_eqb}
+use Rattle.std.specs.List.{filter_map, cons_option}
+use Rattle.std.specs.Option.{ok_or, option_map}
 use Rattle.fault.specs.declared.fault.Fault.{Fault}
-use Rattle.block.specs.declared.records.Record.{Record}
-use Rattle.block.specs.declared.records.Record.TheVariants.{Fill, PowerUp, Packet}
-use Rattle.block.specs.declared.records.Carried.{Carried}
-use Rattle.block.specs.Contents.{Placed, record_at, found, thing_in, ends_at}
-use Rattle.block.specs.Contents.Thing.{packet}
-use Rattle.block.specs.Handing.{packet_place}
-use Rattle.block.specs.Reading.{carried, reading_from}
-use Rattle.block.specs.Reading.Reading.{done, more}
-use Rattle.block.proofs.Shapes.{Whole, Shape, told_as}
-use Rattle.block.proofs.Steps.{reads_as, reads_end, reads_fill, reads_power_up}
+use Rattle.fault.specs.declared.refusal.Refusal.TheVariants.{NumberOutOfRange}
+use Rattle.block.specs.Contents.{Thing, Placed, fault_at}
+use Rattle.block.specs.Contents.Thing.{fill, power_up, packet}
+use Rattle.block.specs.Handing.{packet_place, bytes_at, bytes_in}
+use Rattle.block.specs.Reading.{Reading, reading, carried}
+use Rattle.block.specs.Reading.Reading.{done, filled, broken, more}
+use Rattle.block.specs.Tiling.{Tiles, Stands}
+use Rattle.block.specs.Walking.{items_of}
+use Rattle.block.proofs.Tilings.{sound}
 
-module _ (b : List ℕ) (o : ℕ) (c : Carried) (e : found (Ok (Some c)) ≡ record_at b o) where
-  -- the packet is the part of the block right behind its kind byte
-  pub packet_part : (p : Bor (List ℕ)) → c.«record» ≡ Packet p → p.now ≡ take (length p.now) (drop (o + 1) b)
-  packet_part p h =
-      let w : Whole (get_or b o 0) (drop (o + 1) b) p.now = subst (λ r. Shape o (get_or b o 0) (drop (o + 1) b) (Ok (thing_in r))) h (told_as b o (found (Ok (Some c))) e).shaped in
-      w.body
+abbrev packet_bytes : Thing → Option (List ℕ)
+packet_bytes fill = None
+packet_bytes power_up = None
+packet_bytes (packet p) = Some p
 
-  -- what is no packet does not count
-  pub place_other : (n : ℕ) (r : Record) → c.«record» ≡ r → ((p : Bor (List ℕ)) → r ≡ Packet p → ⊥) → packet_place n (carried (reading_from b o)) ≡ packet_place n (carried (reading_from b c.next))
-  place_other n Fill h never =
-      let next : c.next ≡ length b = ap (λ (q : Placed). q.up_to) (told_as b o (found (Ok (Some c))) e).is ∙ ap (λ r. ends_at b o (thing_in r)) h in
-      let end : reading_from b c.next ≡ done = reads_end b c.next (omega arith) in
-      ap (λ r. packet_place n (carried r)) (reads_fill b o c e h) ∙ sym (ap (λ r. packet_place n (carried r)) end)
-  place_other n PowerUp h never = ap (λ r. packet_place n (carried r)) (reads_power_up b o c e h)
-  place_other n (Packet p) h never = absurd (never p refl)
+-- the bytes of the packets among the records
+abbrev packets : List (ℕ × Thing) → List (List ℕ)
+packets rs = filter_map (λ r. packet_bytes r.1) rs
 
--- where no record was found, none is carried from there on
-pub carried_none : (b : List ℕ) (o : ℕ) → found (Ok None) ≡ record_at b o → carried (reading_from b o) ≡ []
-carried_none b o e = ap carried (reads_as b o (Ok None) e)
+-- those of an item of a walk
+abbrev pub item_bytes : Result Placed Fault → Option (List ℕ)
+item_bytes (Ok p) = packet_bytes p.thing
+item_bytes (Err e) = None
 
-pub carried_fault : (b : List ℕ) (o : ℕ) (f : Fault) → found (Err f) ≡ record_at b o → carried (reading_from b o) ≡ []
-carried_fault b o f e = ap carried (reads_as b o (Err f) e)
+items_packets : (b : List ℕ) (r : Reading) → filter_map item_bytes (items_of b r) ≡ packets (carried r)
+items_packets b done = refl
+items_packets b (filled o) = refl
+items_packets b (broken o e) = refl
+items_packets b (more o t r) = ap (cons_option (packet_bytes t)) (items_packets b r)
 
--- the step of the count at a packet
-pub place_packet : (b : List ℕ) (o n next : ℕ) (p : List ℕ) → reading_from b o ≡ more o (packet p) (reading_from b next) → packet_place n (carried (reading_from b o)) ≡ cond (eqb n 0) (Some (o, length p)) (packet_place (n - 1) (carried (reading_from b next)))
-place_packet b o n next p e = ap (λ r. packet_place n (carried r)) e
+behind : (xs : List ℕ) (k : ℕ) (p : List ℕ) → take (suc k) xs ≡ k ∷ p → take k (drop 1 xs) ≡ p
+behind [] k p e = cc
+behind (x ∷ xs) k p e = cc
+
+packet_stands : (b : List ℕ) (o : ℕ) (p : List ℕ) → Stands b o (packet p) → take (length p) (drop (o + 1) b) ≡ p
+packet_stands b o p s = ap (take (length p)) (sym (drop-drop 1 o b)) ∙ behind (drop o b) (length p) p s.bytes
+
+places : (b : List ℕ) (rs : List (ℕ × Thing)) (o e n : ℕ) → Tiles b o rs e → ok_or (slice_get (packets rs) n) (fault_at NumberOutOfRange 0) ≡ bytes_at b (packet_place n rs)
+places b [] o e n t = refl
+places b ((at, fill) ∷ rs) o e n t = absurd t.1.kind
+places b ((at, power_up) ∷ rs) o e n t = places b rs _ e n t.2
+places b ((at, packet p) ∷ rs) o e zero t = ap Ok (sym (packet_stands b o p t.1) ∙ ap (λ k. take (length p) (drop (k + 1) b)) (sym t.0))
+places b ((at, packet p) ∷ rs) o e (suc n) t =
+    let less : suc n - 1 ≡ n = omega arith in
+    places b rs _ e n t.2 ∙ ap (bytes_at b) (ap (λ k. packet_place k rs) (sym less) ∙ sym (cond-false _ _ _ (ne_eqb (suc n) 0 (omega arith))))
+
+-- what `ok_or` makes of a packet
+bytes_answered : (r : Option (Bor (List ℕ))) (e : Fault) → bytes_in (ok_or r e) ≡ ok_or (option_map (λ p. p.now) r) e
+bytes_answered None e = refl
+bytes_answered (Some p) e = refl
+
+-- r is the packet that n others stand before
+pub handed : (b : List ℕ) (r : Option (Bor (List ℕ))) (n : ℕ) → option_map (λ p. p.now) r ≡ slice_get (filter_map item_bytes (items_of b (reading b))) n → bytes_in (ok_or r (fault_at NumberOutOfRange 0)) ≡ bytes_at b (packet_place n (carried (reading b)))
+handed b r n e =
+    bytes_answered r (fault_at NumberOutOfRange 0) ∙ ap (λ o. ok_or o (fault_at NumberOutOfRange 0)) (e ∙ ap (λ l. slice_get l n) (items_packets b (reading b))) ∙ places b (carried (reading b)) 0 _ n (sound b).0

@@ -1,11 +1,9 @@
 -- One step of the reading of a block.
-use Rattle.std.proofs.Common.{◌≡◌, ℕ, zero, suc, ◌+◌, ◌<◌, ◌≤◌, List, [], ◌∷◌, length, get_or, drop, Some, None, Ok, Err, Option, Result, sym, refl, ap, ◌∙◌, ⊎_elim, add-zero, arith, Bor}
+use Rattle.std.proofs.Common.{◌≡◌, ℕ, zero, suc, ◌+◌, ◌<◌, ◌≤◌, List, [], ◌∷◌, length, get_or, drop, Some, None, Ok, Err, Option, Result, sym, refl, ap, ◌∙◌, ⊎_elim, add-zero, arith}
 use Rattle.std.proofs.lemmas.List.{at_drop_more, at_drop_all, drop-drop}
 use Rattle.std.proofs.lemmas.Bool.{cond-true, cond-false, lt-ltb, le-ltb, cases_lt}
 use Rattle.fault.specs.declared.fault.Fault.{Fault}
-use Rattle.block.specs.declared.records.Record.TheVariants.{Fill, PowerUp, Packet}
-use Rattle.block.specs.declared.records.Carried.{Carried}
-use Rattle.block.specs.Contents.{Thing, Placed, thing_of, placed, record_at, thing_in, found}
+use Rattle.block.specs.Contents.{Thing, Placed, thing_of, placed, record_at}
 use Rattle.block.specs.Contents.Thing.{fill, power_up, packet}
 use Rattle.block.specs.Reading.{Reading, read_on, reading_from}
 use Rattle.block.specs.Reading.Reading.{done, filled, broken, more}
@@ -59,14 +57,3 @@ reads b o =
 -- where r is what `record_at` found there
 pub reads_as : (b : List ℕ) (o : ℕ) (r : Result (Option Placed) Fault) → r ≡ record_at b o → reading_from b o ≡ onward b o r
 reads_as b o r e = reads b o ∙ ap (onward b o) (sym e)
-
--- where it found c, by what c is
-module _ (b : List ℕ) (o : ℕ) (c : Carried) (e : found (Ok (Some c)) ≡ record_at b o) where
-  pub reads_fill : c.«record» ≡ Fill → reading_from b o ≡ filled o
-  reads_fill h = reads_as b o _ e ∙ ap (λ r. passing b o (thing_in r) c.next) h
-
-  pub reads_power_up : c.«record» ≡ PowerUp → reading_from b o ≡ more o power_up (reading_from b c.next)
-  reads_power_up h = reads_as b o _ e ∙ ap (λ r. passing b o (thing_in r) c.next) h
-
-  pub reads_packet : (p : Bor (List ℕ)) → c.«record» ≡ Packet p → reading_from b o ≡ more o (packet p.now) (reading_from b c.next)
-  reads_packet p h = reads_as b o _ e ∙ ap (λ r. passing b o (thing_in r) c.next) h

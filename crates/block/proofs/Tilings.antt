@@ -96,11 +96,25 @@ fill_counts_none b s e h =
 
 -- ---- what `survey` ensures
 
+abbrev Surveys : List ℕ → Result Survey Fault → Type 0
+Surveys b r = record { is : r ≡ surveyed b; tiles : SurveyTiles b r; ends : SurveyEnds b r; nothing : FillIsNothing b r }
+
 -- of a block whose reading s sums up
-pub survey_tells : (b : List ℕ) (s : Survey) → is_block_length (length b) ≡ true → s ≡ summed (length b) (reading b) → (Ok s ≡ surveyed b) × SurveyTiles b (Ok s) × SurveyEnds b (Ok s) × FillIsNothing b (Ok s)
+pub survey_tells : (b : List ℕ) (s : Survey) → is_block_length (length b) ≡ true → s ≡ summed (length b) (reading b) → Surveys b (Ok s)
 survey_tells b s good e =
-    (ap Ok e ∙ sym (cond-true _ _ _ good), subst (λ t. SurveyTiles b (Ok t)) (sym e) (sound b).0, subst (λ t. SurveyEnds b (Ok t)) (sym e) (sound b).1, fill_counts_none b s e)
+    record {
+      is = ap Ok e ∙ sym (cond-true _ _ _ good);
+      tiles = subst (λ t. SurveyTiles b (Ok t)) (sym e) (sound b).0;
+      ends = subst (λ t. SurveyEnds b (Ok t)) (sym e) (sound b).1;
+      nothing = fill_counts_none b s e;
+    }
 
 -- of a block that is refused
-pub survey_refuses : (b : List ℕ) (f : Fault) → is_block_length (length b) ≡ false → f ≡ fault_at BlockLength 0 → (Err f ≡ surveyed b) × FillIsNothing b (Err f)
-survey_refuses b f bad e = (ap Err e ∙ sym (cond-false _ _ _ bad), λ h. let n = fill_carries_none b h in (n.0, n.1, tt))
+pub survey_refuses : (b : List ℕ) (f : Fault) → is_block_length (length b) ≡ false → f ≡ fault_at BlockLength 0 → Surveys b (Err f)
+survey_refuses b f bad e =
+    record {
+      is = ap Err e ∙ sym (cond-false _ _ _ bad);
+      tiles = tt;
+      ends = tt;
+      nothing = λ h. let n = fill_carries_none b h in (n.0, n.1, tt);
+    }

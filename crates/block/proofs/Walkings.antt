@@ -1,17 +1,18 @@
 -- What the calls of `next` give, one after the other.
-use Rattle.std.proofs.Common.{◌≡◌, ℕ, zero, suc, ◌+◌, ◌<◌, ◌≤◌, Bool, true, false, cond, List, [], ◌∷◌, length, Some, None, Ok, Err, Option, Result, sym, refl, ap, ◌∙◌, subst, arith}
-use Rattle.std.proofs.lemmas.Bool.{cond-false, le-ltb}
+use Rattle.std.proofs.Common.{◌≡◌, ℕ, ◌<◌, ◌≤◌, Bool, true, false, cond, List, [], ◌∷◌, length, Some, None, Ok, Err, Option, Result, sym, refl, ap, ◌∙◌, subst, arith}
+use Rattle.std.proofs.lemmas.Iterator.Consumers.{YieldsList-from_shown}
 use Rattle.std.specs.Iterator.{AlwaysYields}
 use Rattle.fault.specs.declared.fault.Fault.{Fault}
 use Rattle.fault.specs.declared.refusal.Refusal.TheVariants.{BlockLength}
 use Rattle.block.specs.declared.records.Carried.{Carried}
 use Rattle.block.specs.declared.walk.Walk.{Walk}
-use Rattle.block.specs.Contents.{Thing, Placed, record_at, ends_at, found, length_checked, is_block_length, fault_at}
+use Rattle.block.specs.Contents.{Thing, Placed, record_at, ends_at, found, placed_in, thing_in, length_checked, is_block_length, fault_at}
 use Rattle.block.specs.Contents.Thing.{fill, power_up, packet}
 use Rattle.block.specs.Reading.{reading_from}
+use Rattle.block.specs.Reading.Reading.{done, broken}
 use Rattle.block.specs.Walking.{walked, stands_at, item_of, item_in, given_in, afterwards, Advances, item_at, items_of}
-use Rattle.block.proofs.Shapes.{Told, told, later}
-use Rattle.block.proofs.Steps.{passing, onward, reads, reads_end}
+use Rattle.block.proofs.Shapes.{Told, told, told_as, later, ends_inside}
+use Rattle.block.proofs.Steps.{passing, onward, reads, reads_as, reads_end}
 
 -- ---- the length
 
@@ -35,6 +36,14 @@ as_found_lem (Ok None) = refl
 as_found_lem (Ok (Some p)) = refl
 as_found_lem (Err e) = refl
 
+-- the record c at o of the block b was given, and t is behind it
+pub record Turn (b : List ℕ) (o : ℕ) (t : Walk) (c : Carried) : Type 0 where
+  pub over : walked t ≡ b
+  pub at : stands_at t ≡ c.next
+  pub reads : reading_from b o ≡ passing b o (thing_in c.«record») c.next
+  pub past : o < c.next
+  pub inside : c.next ≤ length b
+
 -- at s, which stands at o of the block b
 module _ (b : List ℕ) (o : ℕ) (s t : Walk) (over : walked s ≡ b) (at : stands_at s ≡ o) where
   here : record_at (walked s) (stands_at s) ≡ record_at b o
@@ -57,6 +66,20 @@ module _ (b : List ℕ) (o : ℕ) (s t : Walk) (over : walked s ≡ b) (at : sta
 
   pub moves_on : (c : Carried) → Advances s (Some (Ok c)) t → stands_at t ≡ c.next
   moves_on c a = a.moves ∙ ap (afterwards (length (walked s)) (stands_at s)) (here ∙ sym (found_record c a))
+
+  -- what that says of the reading from o on
+  pub turn_none : Advances s None t → (reading_from b o ≡ done) × (length b ≤ o)
+  turn_none a = (reads_as b o (Ok None) (found_none a), told_as b o (Ok None) (found_none a))
+
+  pub turn_fault : (x : Result Carried Fault) (f : Fault) → x ≡ Err f → Advances s (Some x) t → reading_from b o ≡ broken o f
+  turn_fault x f is a = reads_as b o (Err f) (found_fault f (subst (λ y. Advances s (Some y) t) is a))
+
+  pub turn : (x : Result Carried Fault) (c : Carried) → x ≡ Ok c → Advances s (Some x) t → Turn b o t c
+  turn x c is a =
+      let d : Advances s (Some (Ok c)) t = subst (λ y. Advances s (Some y) t) is a in
+      let e = found_record c d in
+      let f = told_as b o (found (Ok (Some c))) e in
+      record { over = d.same ∙ over; at = moves_on c d; reads = reads_as b o (found (Ok (Some c))) e; past = later b o (placed_in c) f; inside = ends_inside b o (placed_in c) f }
 
 -- ---- all calls
 
@@ -91,40 +114,22 @@ items_on b o = ap (items_of b) (reads b o) ∙ items_by_lem b o (record_at b o) 
 abbrev pub items_left : Walk → List (Result Placed Fault)
 items_left s = items_from (walked s) (stands_at s)
 
-never_none : (x : Result Carried Fault) → given_in (Some x) ≡ None → ⊥
-never_none x e = let z : ◌≡◌ {A = ℕ} 0 1 = cc in omega arith
+-- by what a call at s gives
+items_given : (s t : Walk) (r : Option (Result Carried Fault)) → Advances s r t → items_left s ≡ items_by (walked s) (as_found (given_in r))
+items_given s t r a = items_on (walked s) (stands_at s) ∙ ap (items_by (walked s)) (sym (found_by (walked s) (stands_at s) s t refl refl r a))
 
-never_some : (y : Result Placed Fault) → None ≡ Some y → ⊥
-never_some y e = let z : ◌≡◌ {A = ℕ} 0 1 = cc in omega arith
+items_after : (s t : Walk) (r : Option (Result Carried Fault)) → Advances s r t → items_left t ≡ items_from (walked s) (afterwards (length (walked s)) (stands_at s) (as_found (given_in r)))
+items_after s t r a =
+    ap (λ b. items_from b (stands_at t)) a.same ∙ ap (items_from (walked s)) (a.moves ∙ ap (afterwards (length (walked s)) (stands_at s)) (sym (found_by (walked s) (stands_at s) s t refl refl r a)))
 
-same_item : (x : Result Carried Fault) (y : Result Placed Fault) → given_in (Some x) ≡ Some y → item_in x ≡ y
-same_item x y e = cc
+none_left : (s t : Walk) → Advances s None t → length (items_left s) ≡ 0
+unfolding as_found
+none_left s t a = ap length (items_given s t None a)
 
--- where `record_at` says r at s
-gives_by : (s : Walk) (r : Result (Option Placed) Fault) → record_at (walked s) (stands_at s) ≡ r → Told (walked s) (stands_at s) r → ((j : Walk) → walked j ≡ walked s → stands_at s < stands_at j → AlwaysYields Advances item_in j (items_left j)) → AlwaysYields Advances item_in s (items_by (walked s) r)
-gives_by s (Ok None) e h on = λ x j a. never_none x (a.item ∙ ap item_of e)
-gives_by s (Ok (Some p)) e h on = (
-  λ j a. never_some (Ok p) (a.item ∙ ap item_of e),
-  λ x j a.
-      let place : stands_at j ≡ p.up_to = a.moves ∙ ap (afterwards (length (walked s)) (stands_at s)) e in
-      let past : stands_at s < p.up_to = later (walked s) (stands_at s) p h in
-      (same_item x (Ok p) (a.item ∙ ap item_of e), subst (AlwaysYields Advances item_in j) (ap (λ b. items_from b (stands_at j)) a.same ∙ ap (items_from (walked s)) place) (on j a.same (omega arith))),
-)
-gives_by s (Err f) e h on = (
-  λ j a. never_some (Err f) (a.item ∙ ap item_of e),
-  λ x j a.
-      let place : stands_at j ≡ length (walked s) = a.moves ∙ ap (afterwards (length (walked s)) (stands_at s)) e in
-      (same_item x (Err f) (a.item ∙ ap item_of e), subst (AlwaysYields Advances item_in j) (ap (λ b. items_from b (stands_at j)) a.same ∙ ap (items_from (walked s)) place) (on j a.same (omega arith))),
-)
-
-gives_end : (s : Walk) → length (walked s) ≤ stands_at s → AlwaysYields Advances item_in s (items_left s)
-gives_end s h =
-    let none : record_at (walked s) (stands_at s) ≡ Ok None = cond-false _ _ _ (le-ltb (stands_at s) (length (walked s)) h) in
-    subst (AlwaysYields Advances item_in s) (sym (items_end (walked s) (stands_at s) h)) (λ x j a. never_none x (a.item ∙ ap item_of none))
-
-gives_from : (n : ℕ) (s : Walk) → length (walked s) ≤ stands_at s + n → AlwaysYields Advances item_in s (items_left s)
-gives_from zero s h = gives_end s (omega arith)
-gives_from (suc n) s h = subst (AlwaysYields Advances item_in s) (sym (items_on (walked s) (stands_at s))) (gives_by s (record_at (walked s) (stands_at s)) refl (told (walked s) (stands_at s)) (λ j same past. gives_from n j (omega (arith, ap length same))))
+one_fewer : (s : Walk) (x : Result Carried Fault) (t : Walk) → Advances s (Some x) t → items_left s ≡ item_in x ∷ items_left t
+unfolding as_found
+one_fewer s (Ok c) t a = items_given s t (Some (Ok c)) a ∙ ap (λ l. Ok (placed_in c) ∷ l) (sym (items_after s t (Some (Ok c)) a))
+one_fewer s (Err e) t a = items_given s t (Some (Err e)) a ∙ ap (λ l. Err e ∷ l) (sym (items_after s t (Some (Err e)) a))
 
 pub gives_left : (s : Walk) → AlwaysYields Advances item_in s (items_left s)
-gives_left s = gives_from (length (walked s)) s (omega arith)
+gives_left s = (YieldsList-from_shown Advances item_in items_left none_left one_fewer s).runs

@@ -5,7 +5,6 @@
 mod limit;
 mod packets;
 pub mod records;
-mod refusing;
 pub mod summary;
 mod surveying;
 pub mod walk;

@@ -1,7 +1,6 @@
 ghost use Rattle.std.specs.Prelude.{◌≡◌, length};
 ghost use Rattle.block.specs.Contents.{length_checked};
 
-use crate::refusing::fault_at;
 use fault::{Fault, Refusal};
 
 /// Refuses a block that is empty or has more than 512 bytes.
@@ -10,6 +9,9 @@ pub fn check_length(block: &[u8]) -> Result<(), Fault>
 {
     match block.len() {
         1..=512 => Ok(()),
-        _ => Err(fault_at(Refusal::BlockLength, 0)),
+        _ => Err(Fault {
+            refusal: Refusal::BlockLength,
+            offset: 0,
+        }),
     }
 }

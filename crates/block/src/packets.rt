@@ -2,7 +2,6 @@ ghost use Rattle.std.specs.Prelude.{◌≡◌};
 ghost use Rattle.block.specs.Handing.{handed_out, bytes_in};
 
 use crate::records::Record;
-use crate::refusing::fault_at;
 use crate::walk::Walk;
 use fault::{Fault, Refusal};
 
@@ -12,17 +11,14 @@ use fault::{Fault, Refusal};
 pub fn packet_at<'a>(block: &'a [u8], n: usize) -> Result<&'a [u8], Fault>
     ensures { bytes_in result ≡ handed_out block.now n }
 {
-    let mut left = n;
-    for item in Walk::new(block)? {
-        let Ok(carried) = item else {
-            break;
-        };
-        if let Record::Packet(packet) = carried.record {
-            if left == 0 {
-                return Ok(packet);
-            }
-            left -= 1;
-        }
-    }
-    Err(fault_at(Refusal::NumberOutOfRange, 0))
+    Walk::new(block)?
+        .filter_map(|item| match item.ok()?.record {
+            Record::Packet(packet) => Some(packet),
+            Record::PowerUp | Record::Fill => None,
+        })
+        .nth(n)
+        .ok_or(Fault {
+            refusal: Refusal::NumberOutOfRange,
+            offset: 0,
+        })
 }

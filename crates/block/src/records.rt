@@ -1,7 +1,6 @@
 ghost use Rattle.std.specs.Prelude.{◌≡◌};
 ghost use Rattle.block.specs.Contents.{first_nonzero_from, record_at, found, Within};
 
-use crate::refusing::fault_at;
 use fault::{Fault, Refusal};
 
 /// What a record is. A packet is the very part of the block that holds its bytes.
@@ -29,12 +28,8 @@ pub struct Carried<'a> {
 fn first_nonzero(block: &[u8], offset: usize) -> Option<usize>
     ensures { result ≡ first_nonzero_from block.now offset }
 {
-    for at in offset..block.len() {
-        if block[at] != 0 {
-            return Some(at);
-        }
-    }
-    None
+    let rest = block.get(offset..)?;
+    rest.iter().position(|byte| *byte != 0).map(|k| offset + k)
 }
 
 /// The record that begins at `offset`, or none where `offset` is at the block's end or past it.
@@ -45,36 +40,40 @@ pub fn record_at<'a>(block: &'a [u8], offset: usize) -> Result<Option<Carried<'a
     ensures is { found result ≡ record_at block.now offset }
     ensures within { Within block.now offset result }
 {
-    if offset >= block.len() {
+    let Some(&kind) = block.get(offset) else {
         return Ok(None);
-    }
-    let kind = block[offset];
-    match kind {
+    };
+    let (record, next) = match kind {
         0x00 => match first_nonzero(block, offset + 1) {
-            Some(at) => Err(fault_at(Refusal::NonzeroFill, at)),
-            None => Ok(Some(Carried {
-                offset,
-                record: Record::Fill,
-                next: block.len(),
-            })),
-        },
-        0x10 => Ok(Some(Carried {
-            offset,
-            record: Record::PowerUp,
-            next: offset + 1,
-        })),
-        0x03..=0x06 => {
-            let size = usize::from(kind);
-            if block.len() - offset - 1 < size {
-                return Err(fault_at(Refusal::BodyCutOff, offset));
+            Some(at) => {
+                return Err(Fault {
+                    refusal: Refusal::NonzeroFill,
+                    offset: at,
+                });
             }
-            let next = offset + 1 + size;
-            Ok(Some(Carried {
-                offset,
-                record: Record::Packet(&block[offset + 1..next]),
-                next,
-            }))
+            None => (Record::Fill, block.len()),
+        },
+        0x10 => (Record::PowerUp, offset + 1),
+        0x03..=0x06 => {
+            let next = offset + 1 + usize::from(kind);
+            let Some(body) = block.get(offset + 1..next) else {
+                return Err(Fault {
+                    refusal: Refusal::BodyCutOff,
+                    offset,
+                });
+            };
+            (Record::Packet(body), next)
         }
-        _ => Err(fault_at(Refusal::UnknownKind, offset)),
-    }
+        _ => {
+            return Err(Fault {
+                refusal: Refusal::UnknownKind,
+                offset,
+            });
+        }
+    };
+    Ok(Some(Carried {
+        offset,
+        record,
+        next,
+    }))
 }

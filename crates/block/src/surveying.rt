@@ -14,36 +14,30 @@ pub fn survey(block: &[u8]) -> Result<Survey, Fault>
     ensures ends { SurveyEnds block.now result }
     ensures nothing { FillIsNothing block.now result }
 {
-    let mut packets = 0;
-    let mut power_ups = 0;
-    let mut end = 0;
+    let mut survey = Survey {
+        packets: 0,
+        power_ups: 0,
+        end: 0,
+        fault: None,
+    };
     for item in Walk::new(block)? {
         match item {
             Ok(carried) => match carried.record {
                 Record::Fill => break,
                 Record::PowerUp => {
-                    power_ups += 1;
-                    end = carried.next;
+                    survey.power_ups += 1;
+                    survey.end = carried.next;
                 }
                 Record::Packet(_) => {
-                    packets += 1;
-                    end = carried.next;
+                    survey.packets += 1;
+                    survey.end = carried.next;
                 }
             },
             Err(fault) => {
-                return Ok(Survey {
-                    packets,
-                    power_ups,
-                    end,
-                    fault: Some(fault),
-                });
+                survey.fault = Some(fault);
+                break;
             }
         }
     }
-    Ok(Survey {
-        packets,
-        power_ups,
-        end,
-        fault: None,
-    })
+    Ok(survey)
 }

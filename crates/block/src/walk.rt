@@ -34,17 +34,11 @@ impl<'a> Iterator for Walk<'a> {
     ghost remaining = { λ s. at_most (length (walked s) - stands_at s) };
 
     fn next(&mut self) -> Option<Result<Carried<'a>, Fault>> {
-        let block = self.block;
-        match record_at(block, self.offset) {
-            Ok(Some(carried)) => {
-                self.offset = carried.next;
-                Some(Ok(carried))
-            }
-            Ok(None) => None,
-            Err(fault) => {
-                self.offset = block.len();
-                Some(Err(fault))
-            }
-        }
+        let item = record_at(self.block, self.offset).transpose()?;
+        self.offset = match item {
+            Ok(carried) => carried.next,
+            Err(_) => self.block.len(),
+        };
+        Some(item)
     }
 }

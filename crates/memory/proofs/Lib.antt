@@ -1,3 +1,1 @@
-pub mod ByteCells
-pub mod StripCells
-pub mod WordCells
+pub mod PlaceCells

@@ -1,23 +1,14 @@
--- How many cells bytes, words and a strip have, and that every cell is a byte.
-use Rattle.std.specs.Prelude.{◌≡◌, ℕ, zero, suc, ◌-◌, ◌*◌, ◌<◌, min, List, [], ◌∷◌, length, take, drop, slice_index, refl}
-use Rattle.std.proofs.Common.{ap, ◌∙◌, arith, length-take, length-drop}
+-- How many cells bytes, words and a strip have, and that every cell is a byte: the memories' laws. They stand here since a ghost member may cite no file of `proofs/`.
+use Rattle.std.specs.Prelude.{◌≡◌, ℕ, zero, suc, ◌-◌, ◌*◌, ◌%◌, ◌^◌, ◌<◌, min, List, [], ◌∷◌, length, slice_index, refl}
+use Rattle.std.proofs.Common.{ap, arith, length-append, length-take, length-drop}
+use Rattle.std.proofs.Math.ListN.{get_or-map}
+use Rattle.std.proofs.Math.Nat.{mul-suc}
+use Rattle.std.proofs.lemmas.Grind.{common_steps}
 use Rattle.memory.specs.Cells.{byte_cells, word_cells, strip_cells}
-
-pub length_bytes : (bs : List ℕ) → length (byte_cells bs) ≡ length bs
-length_bytes [] = refl
-length_bytes (b ∷ bs) = ap suc (length_bytes bs)
+use Rattle.memory.specs.Places.{PlaceLaws}
 
 pub bytes_fit : (bs : List ℕ) (k : ℕ) → slice_index (byte_cells bs) k < 256
-bytes_fit [] k = omega arith
-bytes_fit (b ∷ bs) zero = omega arith
-bytes_fit (b ∷ bs) (suc k) = bytes_fit bs k
-
-double : (n : ℕ) → suc (suc (2 * n)) ≡ 2 * suc n
-double n = omega arith
-
-pub length_words : (ws : List ℕ) → length (word_cells ws) ≡ 2 * length ws
-length_words [] = refl
-length_words (w ∷ ws) = ap (λ n. suc (suc n)) (length_words ws) ∙ double (length ws)
+bytes_fit bs k = rw (get_or-map (λ b. b % 256) bs k 0) (omega arith)
 
 pub words_fit : (ws : List ℕ) (k : ℕ) → slice_index (word_cells ws) k < 256
 words_fit [] k = omega arith
@@ -25,19 +16,32 @@ words_fit (w ∷ ws) zero = omega arith
 words_fit (w ∷ ws) (suc zero) = omega arith
 words_fit (w ∷ ws) (suc (suc k)) = words_fit ws k
 
-pub length_strip : (cells : List ℕ) (first count : ℕ) → length (strip_cells cells first count) ≡ min count (length cells - first)
-length_strip cells first count = simp (length-take, length-drop)
+pub byte_laws : PlaceLaws 1 byte_cells
+byte_laws = record { some = omega arith; small = omega arith; none = refl; joined = λ b bs. refl; whole = λ b. refl; fit = bytes_fit }
 
-drop_fits : (n : ℕ) (xs : List ℕ) → ((k : ℕ) → slice_index xs k < 256) → (k : ℕ) → slice_index (drop n xs) k < 256
-drop_fits zero xs h k = h k
-drop_fits (suc n) [] h k = omega arith
-drop_fits (suc n) (x ∷ xs) h k = drop_fits n xs (λ j. h (suc j)) k
+pub word_laws : PlaceLaws 2 word_cells
+word_laws = record { some = omega arith; small = omega arith; none = refl; joined = λ w ws. refl; whole = λ w. refl; fit = words_fit }
 
-take_fits : (n : ℕ) (xs : List ℕ) → ((k : ℕ) → slice_index xs k < 256) → (k : ℕ) → slice_index (take n xs) k < 256
-take_fits zero xs h k = omega arith
-take_fits (suc n) [] h k = omega arith
-take_fits (suc n) (x ∷ xs) h zero = h zero
-take_fits (suc n) (x ∷ xs) h (suc k) = take_fits n xs (λ j. h (suc j)) k
+module _ {P : Type 0} {n : ℕ} {cells : List P → List ℕ} (laws : PlaceLaws n cells) where
+  pub length_places : (ps : List P) → length (cells ps) ≡ n * length ps
+  length_places [] = omega (arith, ap length laws.none)
+  length_places (p ∷ ps) = omega (arith, ap length (laws.joined p ps), length-append (cells (p ∷ [])) (cells ps), laws.whole p, length_places ps, mul-suc n (length ps))
 
-pub strip_fits : (cells : List ℕ) (first count : ℕ) → ((k : ℕ) → slice_index cells k < 256) → (k : ℕ) → slice_index (strip_cells cells first count) k < 256
-strip_fits cells first count h k = take_fits count (drop first cells) (drop_fits first cells h) k
+  pub places_small : (ps : List P) → n * length ps < 2 ^ 64 → length (cells ps) < 2 ^ 64
+  places_small ps h = rw length_places h
+
+pub length_bytes : (bs : List ℕ) → length (byte_cells bs) ≡ length bs
+length_bytes bs = omega (arith, length_places byte_laws bs)
+
+pub length_words : (ws : List ℕ) → length (word_cells ws) ≡ 2 * length ws
+length_words ws = length_places word_laws ws
+
+module _ (cells : List ℕ) (first count : ℕ) where
+  pub length_strip : length (strip_cells cells first count) ≡ min count (length cells - first)
+  length_strip = simp (length-take, length-drop)
+
+  pub strip_fits : ((k : ℕ) → slice_index cells k < 256) → (k : ℕ) → slice_index (strip_cells cells first count) k < 256
+  strip_fits h k = grind (arith, common_steps, h)
+
+  pub strip_small : length cells < 2 ^ 64 → length (strip_cells cells first count) < 2 ^ 64
+  strip_small h = simp (length-take, length-drop) (omega arith)

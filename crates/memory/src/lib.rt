@@ -5,10 +5,12 @@
 pub mod bytes;
 pub mod memory;
 mod refusing;
+pub mod slices;
 pub mod strip;
 pub mod words;
 
 pub use crate::bytes::ByteMemory;
 pub use crate::memory::Memory;
+pub use crate::slices::{Place, SliceMemory};
 pub use crate::strip::Strip;
 pub use crate::words::WordMemory;

@@ -13,13 +13,9 @@ pub trait Memory {
     // What lies outside of the cells in each memory that this one is a part of, the nearest first.
     ghost outside: { Self → List Outside };
 
-    // Every cell holds a byte.
-    ghost fits: { (m : Self) (k : ℕ) → slice_index (cells m) k < 256 };
-
     /// How many cells there are.
     fn count(&self) -> usize
-        ensures answer { result ≡ length (cells self.now) }
-        ensures small { length (cells self.now) < 2 ^ 64 };
+        ensures { result ≡ length (cells self.now) };
 
     /// The byte in a cell. No cell changes, though the memory may move things inside.
     fn read(&mut self, cell: usize) -> Result<u8, Fault>
@@ -32,4 +28,10 @@ pub trait Memory {
         ensures answer { result ≡ cell_write (cells self.old) cell }
         ensures after { cells self.new ≡ slice_set (cells self.old) cell byte }
         ensures outside { outside self.new ≡ outside self.old };
+
+    // Every cell holds a byte.
+    ghost fits: { (m : Self) (k : ℕ) → slice_index (cells m) k < 256 };
+
+    // Their count is a `usize`.
+    ghost small: { (m : Self) → length (cells m) < 2 ^ 64 };
 }

@@ -1,6 +1,6 @@
 ghost use Rattle.std.specs.Prelude.{◌≡◌, ◌^◌, ◌<◌, length, slice_set};
 ghost use Rattle.memory.specs.Cells.{cell_read, cell_write, strip_cells, strip_check};
-ghost use Rattle.memory.specs.Bounds.{strip_fits};
+ghost use Rattle.memory.specs.Bounds.{strip_fits, strip_small};
 ghost use Rattle.memory.specs.Strips.{cells_below, cells_within, below_written, outsides, rejoined};
 
 use crate::memory::Memory;
@@ -60,11 +60,9 @@ impl<M: Memory> Memory for Strip<M> {
 
     ghost fits = { λ s. strip_fits (M.Memory.cells s.below) s.first s.count (M.Memory.fits s.below) };
 
-    fn count(&self) -> usize
-        ensures answer { result ≡ length (cells_within M.Memory.cells self.now) }
-        ensures small { length (cells_within M.Memory.cells self.now) < 2 ^ 64 }
-        ensures below { length (cells_below M.Memory.cells self.now) < 2 ^ 64 }
-    {
+    ghost small = { λ s. strip_small (M.Memory.cells s.below) s.first s.count (M.Memory.small s.below) };
+
+    fn count(&self) -> usize {
         self.count
             .min(self.below.count().saturating_sub(self.first))
     }

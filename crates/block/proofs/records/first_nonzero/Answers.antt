@@ -1,13 +1,19 @@
-use Rattle.std.proofs.Common.{get_or, sym, ◌∙◌, arith}
-use Rattle.std.proofs.lemmas.Bool.{cond-true, cond-false, eq-eqb, ne_eqb}
-use Rattle.block.proofs.Fills.{nonzero_end, nonzero_on}
+use Rattle.std.proofs.Common.{◌≡◌, ◌+◌, eqb, not, option_map, drop, length-drop, sym, ap, ◌∙◌, rules}
+use Rattle.std.proofs.lemmas.Iterator.{YieldsList-from_slice}
+use Rattle.std.proofs.lemmas.List.{take_all}
+use Rattle.std.proofs.lemmas.Iterator.Search.{position_from_yields_List}
+use borrow.Author.Tests.{tests}
+use Rattle.block.proofs.Fills.{nonzero_end, nonzero_position}
 use Rattle.block.proofs.records.first_nonzero.Goals as goal
 
-pub returns-then-block-at-ne0 : goal.returns-then-block-at-ne0
-returns-then-block-at-ne0 c = sym (nonzero_on _ _ (omega arith) ∙ cond-false _ _ _ (ne_eqb (get_or c.args.block.now c.loop-at.at 0) 0 (omega arith))) ∙ c.loop-at.invariant
-
-pub loop-at-preserved : goal.loop-at-preserved
-loop-at-preserved c = sym (nonzero_on _ _ (omega arith) ∙ cond-true _ _ _ (eq-eqb (get_or c.args.block.now c.loop-at.at 0) 0 (omega arith))) ∙ c.loop-at.invariant
+pub returns-in_err-rest : goal.returns-in_err-rest
+returns-in_err-rest c = c.from_residual.ensures ∙ sym (nonzero_end c.args.block.now c.args.offset (search rules))
 
 pub returns : goal.returns
-returns c = sym (nonzero_end _ _ (omega arith)) ∙ c.loop-at.invariant
+returns c =
+    let b = c.args.block.now in
+    let o = c.args.offset in
+    let rest : c.in_ok-rest.rest.now ≡ drop o b = search (rules, take_all, length-drop) in
+    let at = position_from_yields_List (λ x. not (eqb x 0)) _ _ c.position.result c.position.ensures.ran (YieldsList-from_slice (drop o b) (c.iter.ensures.rest ∙ rest)) (λ x b q k. search (rules, tests)) in
+    let found : c.map.result ≡ option_map (λ k. o + k) c.position.result = search rules in
+    found ∙ ap (option_map (λ k. o + k)) at ∙ nonzero_position o (drop o b)
