@@ -9,9 +9,9 @@ use Rattle.packet.specs.declared.target.Target.{Target}
 use Rattle.format.specs.Reading.{Told, packet_read}
 use Rattle.state.specs.declared.waiting.WaitingWrite.{WaitingWrite}
 use Rattle.state.specs.Bits.{bit_of}
-use Rattle.state.specs.Packing.{packed}
+use Rattle.state.specs.Packing.{packed, matches}
 use Rattle.decoder.specs.declared.role.Role.{Role}
-use Rattle.decoder.specs.Accesses.{access_of, matches, writes_in, waits_after}
+use Rattle.decoder.specs.Accesses.{access_of, writes_in, waits_after}
 use Rattle.decoder.specs.Alone.{Own, Rules, Event, variable, in_role, hearing, obeyed, life}
 use Rattle.decoder.specs.Alone.Event.{heard, powered, setting}
 use Rattle.decoder.specs.Persistence.{Ordinary, names, or_else, is_that, as_write, pair_gives, lived, last_write, given, Persists}
@@ -32,6 +32,18 @@ pub record Lawful {X : Type 0} (m : Rules X) (exceptions : List ℕ) : Type 0 wh
       → bit_of (variable (m.obeys o r bs i).vars n) b
       ≡ or_else (cond (writes_in r i && matches (m.waiting o.rec) (packed bs)) (names n b (access_of i)) None) (bit_of (variable o.vars n) b)
 
+-- bit b of variable n
+abbrev pub bit : ℕ → ℕ → List ℕ → Bool
+bit n b vars = bit_of (variable vars n) b
+
+-- where a byte is put into that variable, or into another one
+module _ {exceptions : List ℕ} (n b : ℕ) (free : Ordinary exceptions n) where
+  pub put_same : (vars : List ℕ) (k x : ℕ) → length vars ≡ 1024 → k ≡ n → bit n b (set vars (k - 1) x) ≡ bit_of x b
+  put_same vars k x l e = rw e (ap (λ y. bit_of y b) (get_or-set_same vars (n - 1) x 0 (omega (arith, free.least, free.most))))
+
+  pub put_other : (vars : List ℕ) (k x : ℕ) → 1 ≤ k → n ≢ k → bit n b (set vars (k - 1) x) ≡ bit n b vars
+  put_other vars k x h ne = ap (λ y. bit_of y b) (get_or-set_other vars (k - 1) (n - 1) x 0 (omega (arith, free.least)))
+
 -- a packet that reads has at most six bytes
 short_packet : (bs : List ℕ) (p : Packet) → packet_read bs ≡ Ok p → length bs ≤ 6
 short_packet bs p e = grind (arith, nat_tests)
@@ -41,18 +53,9 @@ packed_option None = None
 packed_option (Some cs) = Some (packed cs)
 
 module _ {X : Type 0} (m : Rules X) (exceptions : List ℕ) (ok : Lawful m exceptions) (n b : ℕ) (free : Ordinary exceptions n) where
-  abbrev bit : List ℕ → Bool
-  bit vars = bit_of (variable vars n) b
-
-  put_same : (vars : List ℕ) (k x : ℕ) → length vars ≡ 1024 → k ≡ n → bit (set vars (k - 1) x) ≡ bit_of x b
-  put_same vars k x l e = rw e (ap (λ y. bit_of y b) (get_or-set_same vars (n - 1) x 0 (omega (arith, free.least, free.most))))
-
-  put_other : (vars : List ℕ) (k x : ℕ) → 1 ≤ k → n ≢ k → bit (set vars (k - 1) x) ≡ bit vars
-  put_other vars k x h ne = ap (λ y. bit_of y b) (get_or-set_other vars (k - 1) (n - 1) x 0 (omega (arith, free.least)))
-
   -- what the packet names stands so already
   Done : List ℕ → List ℕ → Type 0
-  Done vars cs = (p : Packet) → packet_read cs ≡ Ok p → or_else (names n b (access_of p.instruction)) (bit vars) ≡ bit vars
+  Done vars cs = (p : Packet) → packet_read cs ≡ Ok p → or_else (names n b (access_of p.instruction)) (bit n b vars) ≡ bit n b vars
 
   -- the latest write waits, or it is done; it has at most six bytes
   record Knows (q : Option (List ℕ)) (waiting : Option WaitingWrite) (vars : List ℕ) : Type 0 where
@@ -60,7 +63,7 @@ module _ {X : Type 0} (m : Rules X) (exceptions : List ℕ) (ok : Lawful m excep
     short : (cs : List ℕ) → q ≡ Some cs → length cs ≤ 6
 
   record Step (s : Own X) (to : Own X) (after : Option (List ℕ)) (gave : Option Bool) : Type 0 where
-    value : bit to.vars ≡ or_else gave (bit s.vars)
+    value : bit n b to.vars ≡ or_else gave (bit n b s.vars)
     knows : Knows after (m.waiting to.rec) to.vars
     size : length to.vars ≡ 1024
 
@@ -93,20 +96,20 @@ module _ {X : Type 0} (m : Rules X) (exceptions : List ℕ) (ok : Lawful m excep
     N = names n b (access_of i)
 
     -- the pair is told by the packets as by what waits
-    told : (w t : Bool) → is_that q bs ≡ t → or_else (cond (w && matches (m.waiting s.rec) (packed bs)) N None) (bit s.vars) ≡ or_else (cond (w && t) N None) (bit s.vars)
+    told : (w t : Bool) → is_that q bs ≡ t → or_else (cond (w && matches (m.waiting s.rec) (packed bs)) N None) (bit n b s.vars) ≡ or_else (cond (w && t) N None) (bit n b s.vars)
     unfolding Done
     told false t f = refl
     told true t f = ⊎_elim waits done k.or
       where
-        waits : m.waiting s.rec ≡ packed_option q → or_else (cond (matches (m.waiting s.rec) (packed bs)) N None) (bit s.vars) ≡ or_else (cond t N None) (bit s.vars)
-        waits w = ap (λ x. or_else (cond x N None) (bit s.vars)) (ap (λ x. matches x (packed bs)) w ∙ that q bs k.short (short_packet bs p e) ∙ f)
+        waits : m.waiting s.rec ≡ packed_option q → or_else (cond (matches (m.waiting s.rec) (packed bs)) N None) (bit n b s.vars) ≡ or_else (cond t N None) (bit n b s.vars)
+        waits w = ap (λ x. or_else (cond x N None) (bit n b s.vars)) (ap (λ x. matches x (packed bs)) w ∙ that q bs k.short (short_packet bs p e) ∙ f)
 
-        settled : (t : Bool) → is_that q bs ≡ t → ((cs : List ℕ) → q ≡ Some cs → Done s.vars cs) → bit s.vars ≡ or_else (cond t N None) (bit s.vars)
+        settled : (t : Bool) → is_that q bs ≡ t → ((cs : List ℕ) → q ≡ Some cs → Done s.vars cs) → bit n b s.vars ≡ or_else (cond t N None) (bit n b s.vars)
         settled true g d = sym (d bs (is_that_lem q bs g) p e)
         settled false g d = refl
 
-        done : (m.waiting s.rec ≡ None) × ((cs : List ℕ) → q ≡ Some cs → Done s.vars cs) → or_else (cond (matches (m.waiting s.rec) (packed bs)) N None) (bit s.vars) ≡ or_else (cond t N None) (bit s.vars)
-        done d = ap (λ x. or_else (cond (matches x (packed bs)) N None) (bit s.vars)) d.0 ∙ settled t f d.1
+        done : (m.waiting s.rec ≡ None) × ((cs : List ℕ) → q ≡ Some cs → Done s.vars cs) → or_else (cond (matches (m.waiting s.rec) (packed bs)) N None) (bit n b s.vars) ≡ or_else (cond t N None) (bit n b s.vars)
+        done d = ap (λ x. or_else (cond (matches x (packed bs)) N None) (bit n b s.vars)) d.0 ∙ settled t f d.1
 
     knew : (w c : Bool) → writes_in r i ≡ w → matches (m.waiting s.rec) (packed bs) ≡ c → Knows (cond w (Some bs) None) (cond (w && not c) (Some (packed bs)) None) after.vars
     unfolding Done packed_option
@@ -117,15 +120,15 @@ module _ {X : Type 0} (m : Rules X) (exceptions : List ℕ) (ok : Lawful m excep
         here = refl
     knew true true f g = record { or = inr (refl, λ cs h. done cs h); short = λ cs h. let j : bs ≡ cs = cc in rw (sym j) (short_packet bs p e) }
       where
-        value : bit after.vars ≡ or_else N (bit s.vars)
-        value = ok.writes s p.target r bs i n b in-r l free ∙ ap (λ x. or_else (cond x N None) (bit s.vars)) (ap (λ x. x && matches (m.waiting s.rec) (packed bs)) f ∙ g)
+        value : bit n b after.vars ≡ or_else N (bit n b s.vars)
+        value = ok.writes s p.target r bs i n b in-r l free ∙ ap (λ x. or_else (cond x N None) (bit n b s.vars)) (ap (λ x. x && matches (m.waiting s.rec) (packed bs)) f ∙ g)
 
         done : (cs : List ℕ) → Some bs ≡ Some cs → Done after.vars cs
         done cs h p' d =
             let j : bs ≡ cs = cc in
             let o : p ≡ p' = cc in
             let a : names n b (access_of p'.instruction) ≡ N = ap (λ (x : Packet). names n b (access_of x.instruction)) (sym o) in
-            rw (a, value) (twice N (bit s.vars))
+            rw (a, value) (twice N (bit n b s.vars))
 
     heard_step : Step s after (as_write (Some (r, i)) bs q) (pair_gives n b (Some (r, i)) bs q)
     heard_step = record {
@@ -145,7 +148,7 @@ module _ {X : Type 0} (m : Rules X) (exceptions : List ℕ) (ok : Lawful m excep
 
   module _ (o : Own X) (l : length o.vars ≡ 1024) (w : m.waiting o.rec ≡ None) where
     record Stands (past : List Event) : Type 0 where
-      value : bit (lived m o past).vars ≡ given m o n b past
+      value : bit n b (lived m o past).vars ≡ given m o n b past
       knows : Knows (last_write m o past) (m.waiting (lived m o past).rec) (lived m o past).vars
       size : length (lived m o past).vars ≡ 1024
 
@@ -158,8 +161,8 @@ module _ {X : Type 0} (m : Rules X) (exceptions : List ℕ) (ok : Lawful m excep
     stands (powered ∷ past) = let a = stands past in record { value = a.value; knows = nothing_knows _ _ (ok.starts (lived m o past).rec); size = a.size }
     stands (setting cv x ∷ past) =
         let a = stands past in
-        let here = put_same (lived m o past).vars cv.number x a.size in
-        let there = put_other (lived m o past).vars cv.number x cv.least in
+        let here = put_same n b free (lived m o past).vars cv.number x a.size in
+        let there = put_other n b free (lived m o past).vars cv.number x cv.least in
         let was = a.value in
         record { value = grind (arith, nat_tests); knows = nothing_knows _ _ (ok.unwaits (lived m o past).rec); size = length-set _ (cv.number - 1) x ∙ a.size }
 

@@ -1,31 +1,34 @@
 -- The laws of the rules. Assumes nothing.
-use Rattle.std.proofs.Common.{◌≡◌, ℕ, zero, suc, ◌+◌, ◌-◌, ◌<◌, ◌≤◌, Bool, true, false, cond, not, ◌&&◌, ltb, leb, ◌⊎◌, List, ◌++◌, length, get_or, take, drop, Some, None, refl, ap, ◌∙◌, inl, inr, ⊎_elim, arith}
+use Rattle.std.proofs.Common.{◌≡◌, ℕ, ◌+◌, ◌-◌, ◌<◌, ◌≤◌, Bool, true, false, cond, not, ◌&&◌, ltb, leb, ◌⊎◌, List, ◌++◌, length, get_or, take, drop, Some, None, Option, refl, ap, ◌∙◌, inl, inr, ⊎_elim, arith}
 use Rattle.std.proofs.lemmas.List.{get_or_append_left, get_or-append_right, get_or-take, get_or-drop, get_or-set_same, get_or-set_other, length-take-le, length-append}
 use Rattle.std.proofs.lemmas.Bool.{true≢false, false≢true, cases_lt}
 use Rattle.std.proofs.lemmas.Bool.Decides.{nat_tests}
 use Rattle.packet.specs.declared.instruction.FunctionGroup.TheVariants.{F0ToF4, F5ToF8, F9ToF12, F13ToF20, F21ToF28, F29ToF36, F37ToF44, F45ToF52, F53ToF60, F61ToF68}
 use Rattle.packet.specs.declared.instruction.Instruction.{Instruction}
-use Rattle.packet.specs.declared.instruction.Instruction.TheVariants.{NoOperation, Reset, HardReset, AdvancedAddressing, AcknowledgmentRequest, Consist, Speed, Speed126, Functions, BinaryStateShort, BinaryStateLong, AccelerationAdjustment, DecelerationAdjustment, VerifyByte, WriteByte, VerifyBit, WriteBit, Output, Aspect}
+use Rattle.packet.specs.declared.instruction.Instruction.TheVariants.{Reset, HardReset, Speed, Speed126, Functions, WriteByte, WriteBit}
 use Rattle.packet.specs.declared.target.Target.{Target}
 use Rattle.format.specs.Reading.{packet_read}
-use Rattle.state.specs.declared.volatile.Reply.TheVariants as reply
+use Rattle.state.specs.declared.waiting.WaitingWrite.{WaitingWrite}
 use Rattle.state.specs.Bits.{bit_of}
-use Rattle.state.specs.Groups.{four_bits, eight_bits, pasted, lit, switched}
-use Rattle.state.specs.Packing.{packed}
-use Rattle.decoder.specs.declared.effect.Effect.{Effect}
+use Rattle.state.specs.Groups.{low_bits, pasted, lit, switched}
+use Rattle.state.proofs.Lows.{length-low_bits, low_bit}
+use Rattle.state.specs.Packing.{packed, matches}
+use Rattle.decoder.specs.declared.effect.Access.{Access}
 use Rattle.decoder.specs.declared.effect.Effect.TheVariants as effect
 use Rattle.decoder.specs.declared.records.Mobile.{Mobile}
 use Rattle.decoder.specs.declared.records.Basic.{Basic}
 use Rattle.decoder.specs.declared.records.Extended.{Extended}
 use Rattle.decoder.specs.declared.role.Role.{Role}
 use Rattle.decoder.specs.declared.role.Role.TheVariants as role
-use Rattle.decoder.specs.Accesses.{matches, is_write, barred}
+use Rattle.decoder.specs.Accesses.{access_of, agrees, result, barred, writes_by, is_write, access_acts}
+use Rattle.decoder.specs.Accessories.{output_of, aspect_of, acts_or}
 use Rattle.decoder.specs.Replies.{answer_of}
-use Rattle.decoder.specs.Mobiles.{sped, with_functions}
+use Rattle.decoder.specs.Mobiles.{access_effect, sped, with_functions}
 use Rattle.state.specs.declared.volatile.MobileState.{MobileState}
 use Rattle.state.specs.declared.scale.Scale.TheVariants.{Fourteen, TwentyEight}
-use Rattle.decoder.specs.Alone.{Own, Rules, applied, hearing, obeyed, live, mobile_rules, basic_rules, extended_rules}
+use Rattle.decoder.specs.Alone.{Own, Rules, variable, named, applied, hearing, obeyed, live, mobile_rules, basic_rules, extended_rules}
 use Rattle.decoder.specs.Alone.Event.{heard}
+use Rattle.decoder.proofs.Apart.{Apart, output_apart, aspect_apart}
 use Rattle.decoder.specs.Laws.{ReplyNeedsAll, ResetIsPowerUp, ByConsistOnlySpeed, GroupsSwitchTheirOwn, is_in_group, LightByGroupOne, OthersKeepFunctions, Laws}
 
 module _ {X : Type 0} (m : Rules X) where
@@ -36,82 +39,48 @@ module _ {X : Type 0} (m : Rules X) where
   one o t r s e f = cc
 
 -- a write that does not repeat leaves the variables
-idle_write : (w b : Bool) (e : Effect) (vars : List ℕ) → w ≡ false → applied (cond (w && not b) e effect.Nothing) vars ≡ vars
-idle_write w b e vars f = ap (λ x. applied (cond (x && not b) e effect.Nothing) vars) f
+first_keeps :
+    (offset : ℕ) (w : Option WaitingWrite) (p : WaitingWrite) (v : ℕ) (a : Option Access) (vars : List ℕ)
+    → writes_by a ≡ true
+    → matches w p ≡ false
+    → applied (cond (access_acts offset w p v a) (access_effect v a) None) vars ≡ vars
+first_keeps offset w p v None vars e f = absurd (false≢true e)
+first_keeps offset w p v (Some a) vars e f = go a.writes (matches w p) e f
+  where
+    go : (writes same : Bool) → writes ≡ true → same ≡ false → applied (cond (cond writes (same && not (barred offset a.cv.number)) (agrees a.change v)) (cond writes (Some (effect.Put a.cv (result a.change v))) None) None) vars ≡ vars
+    go true false e f = refl
+    go true true e f = absurd (true≢false f)
+    go false same e f = absurd (false≢true e)
 
 mobile_first : (o : Own Mobile) (r : Role) (bs : List ℕ) (i : Instruction) → is_write i ≡ true → matches o.rec.state.waiting (packed bs) ≡ false → (mobile_rules.obeys o r bs i).vars ≡ o.vars
-mobile_first o r bs NoOperation e f = absurd (false≢true e)
-mobile_first o r bs Reset e f = absurd (false≢true e)
-mobile_first o r bs HardReset e f = absurd (false≢true e)
-mobile_first o r bs (AdvancedAddressing on) e f = absurd (false≢true e)
-mobile_first o r bs AcknowledgmentRequest e f = absurd (false≢true e)
-mobile_first o r bs (Consist reversed address) e f = absurd (false≢true e)
-mobile_first o r bs (Speed forward code) e f = absurd (false≢true e)
-mobile_first o r bs (Speed126 forward code) e f = absurd (false≢true e)
-mobile_first o r bs (Functions group bits) e f = absurd (false≢true e)
-mobile_first o r bs (BinaryStateShort on number) e f = absurd (false≢true e)
-mobile_first o r bs (BinaryStateLong on number) e f = absurd (false≢true e)
-mobile_first o r bs (AccelerationAdjustment value) e f = absurd (false≢true e)
-mobile_first o r bs (DecelerationAdjustment value) e f = absurd (false≢true e)
-mobile_first o r bs (Output number on) e f = absurd (false≢true e)
-mobile_first o r bs (Aspect number) e f = absurd (false≢true e)
-mobile_first o r bs (VerifyByte cv value) e f = absurd (false≢true e)
-mobile_first o role.Everyone bs (WriteByte cv value) e f = idle_write (matches o.rec.state.waiting (packed bs)) (barred 0 cv.number) _ o.vars f
-mobile_first o role.Own bs (WriteByte cv value) e f = idle_write (matches o.rec.state.waiting (packed bs)) (barred 0 cv.number) _ o.vars f
 mobile_first o role.Consist bs (WriteByte cv value) e f = refl
-mobile_first o r bs (VerifyBit cv bit value) e f = absurd (false≢true e)
-mobile_first o role.Everyone bs (WriteBit cv bit value) e f = idle_write (matches o.rec.state.waiting (packed bs)) (barred 0 cv.number) _ o.vars f
-mobile_first o role.Own bs (WriteBit cv bit value) e f = idle_write (matches o.rec.state.waiting (packed bs)) (barred 0 cv.number) _ o.vars f
 mobile_first o role.Consist bs (WriteBit cv bit value) e f = refl
+mobile_first o r bs (WriteByte cv value) e f = first_keeps 0 o.rec.state.waiting (packed bs) (variable o.vars cv.number) (access_of (WriteByte cv value)) o.vars e f
+mobile_first o r bs (WriteBit cv bit value) e f = first_keeps 0 o.rec.state.waiting (packed bs) (variable o.vars cv.number) (access_of (WriteBit cv bit value)) o.vars e f
+mobile_first o r bs i e f = absurd (false≢true e)
+
+accessory_first :
+    {Y : Type 0} (own : Option Y) (a : Option Access) (w : Option WaitingWrite) (p : WaitingWrite) (vars : List ℕ)
+    → Apart own a
+    → writes_by a ≡ true
+    → matches w p ≡ false
+    → applied (cond (acts_or own (access_acts 512 w p (named vars a) a)) (access_effect (named vars a) a) None) vars ≡ vars
+accessory_first None a w p vars h e f = first_keeps 512 w p (named vars a) a vars e f
+accessory_first (Some y) None w p vars h e f = absurd (false≢true e)
+accessory_first (Some y) (Some a) w p vars h e f = absurd (true≢false h)
 
 basic_first : (o : Own Basic) (r : Role) (bs : List ℕ) (i : Instruction) → is_write i ≡ true → matches o.rec.state.waiting (packed bs) ≡ false → (basic_rules.obeys o r bs i).vars ≡ o.vars
-basic_first o r bs NoOperation e f = absurd (false≢true e)
-basic_first o r bs Reset e f = absurd (false≢true e)
-basic_first o r bs HardReset e f = absurd (false≢true e)
-basic_first o r bs (AdvancedAddressing on) e f = absurd (false≢true e)
-basic_first o r bs AcknowledgmentRequest e f = absurd (false≢true e)
-basic_first o r bs (Consist reversed address) e f = absurd (false≢true e)
-basic_first o r bs (Speed forward code) e f = absurd (false≢true e)
-basic_first o r bs (Speed126 forward code) e f = absurd (false≢true e)
-basic_first o r bs (Functions group bits) e f = absurd (false≢true e)
-basic_first o r bs (BinaryStateShort on number) e f = absurd (false≢true e)
-basic_first o r bs (BinaryStateLong on number) e f = absurd (false≢true e)
-basic_first o r bs (AccelerationAdjustment value) e f = absurd (false≢true e)
-basic_first o r bs (DecelerationAdjustment value) e f = absurd (false≢true e)
-basic_first o r bs (Output number on) e f = absurd (false≢true e)
-basic_first o r bs (Aspect number) e f = absurd (false≢true e)
-basic_first o r bs (VerifyByte cv value) e f = absurd (false≢true e)
-basic_first o r bs (WriteByte cv value) e f = idle_write (matches o.rec.state.waiting (packed bs)) (barred 512 cv.number) _ o.vars f
-basic_first o r bs (VerifyBit cv bit value) e f = absurd (false≢true e)
-basic_first o r bs (WriteBit cv bit value) e f = idle_write (matches o.rec.state.waiting (packed bs)) (barred 512 cv.number) _ o.vars f
+basic_first o r bs i e f = accessory_first (output_of i) (access_of i) o.rec.state.waiting (packed bs) o.vars (output_apart i) e f
 
 extended_first : (o : Own Extended) (r : Role) (bs : List ℕ) (i : Instruction) → is_write i ≡ true → matches o.rec.state.waiting (packed bs) ≡ false → (extended_rules.obeys o r bs i).vars ≡ o.vars
-extended_first o r bs NoOperation e f = absurd (false≢true e)
-extended_first o r bs Reset e f = absurd (false≢true e)
-extended_first o r bs HardReset e f = absurd (false≢true e)
-extended_first o r bs (AdvancedAddressing on) e f = absurd (false≢true e)
-extended_first o r bs AcknowledgmentRequest e f = absurd (false≢true e)
-extended_first o r bs (Consist reversed address) e f = absurd (false≢true e)
-extended_first o r bs (Speed forward code) e f = absurd (false≢true e)
-extended_first o r bs (Speed126 forward code) e f = absurd (false≢true e)
-extended_first o r bs (Functions group bits) e f = absurd (false≢true e)
-extended_first o r bs (BinaryStateShort on number) e f = absurd (false≢true e)
-extended_first o r bs (BinaryStateLong on number) e f = absurd (false≢true e)
-extended_first o r bs (AccelerationAdjustment value) e f = absurd (false≢true e)
-extended_first o r bs (DecelerationAdjustment value) e f = absurd (false≢true e)
-extended_first o r bs (Output number on) e f = absurd (false≢true e)
-extended_first o r bs (Aspect number) e f = absurd (false≢true e)
-extended_first o r bs (VerifyByte cv value) e f = absurd (false≢true e)
-extended_first o r bs (WriteByte cv value) e f = idle_write (matches o.rec.state.waiting (packed bs)) (barred 512 cv.number) _ o.vars f
-extended_first o r bs (VerifyBit cv bit value) e f = absurd (false≢true e)
-extended_first o r bs (WriteBit cv bit value) e f = idle_write (matches o.rec.state.waiting (packed bs)) (barred 512 cv.number) _ o.vars f
+extended_first o r bs i e f = accessory_first (aspect_of i) (access_of i) o.rec.state.waiting (packed bs) o.vars (aspect_apart i) e f
 
 replies_need_all : ReplyNeedsAll
 replies_need_all config v role.Everyone acted i = inl refl
 replies_need_all config v role.Consist acted i = inl refl
 replies_need_all config v role.Own acted i = go (bit_of config 3) acted refl refl
   where
-    go : (c d : Bool) → bit_of config 3 ≡ c → acted ≡ d → (cond (c && d) (answer_of v i) reply.None ≡ reply.None) ⊎ ((role.Own ≡ role.Own) × (c ≡ true) × (d ≡ true))
+    go : (c d : Bool) → bit_of config 3 ≡ c → acted ≡ d → (cond (c && d) (Some (answer_of v i)) None ≡ None) ⊎ ((role.Own ≡ role.Own) × (c ≡ true) × (d ≡ true))
     go true true e f = inr (refl, refl, refl)
     go true false e f = inl refl
     go false d e f = inl refl
@@ -137,23 +106,6 @@ short_functions s false forward code k h = get_or-set_other s.functions.on 0 k (
 
 only_speed : ByConsistOnlySpeed
 unfolding short_speed
-only_speed o bs NoOperation = record { vars = refl; states = refl; functions = λ k h. refl; others = λ e. refl }
-only_speed o bs Reset = record { vars = refl; states = refl; functions = λ k h. refl; others = λ e. refl }
-only_speed o bs HardReset = record { vars = refl; states = refl; functions = λ k h. refl; others = λ e. refl }
-only_speed o bs (AdvancedAddressing on) = record { vars = refl; states = refl; functions = λ k h. refl; others = λ e. refl }
-only_speed o bs AcknowledgmentRequest = record { vars = refl; states = refl; functions = λ k h. refl; others = λ e. refl }
-only_speed o bs (Consist reversed address) = record { vars = refl; states = refl; functions = λ k h. refl; others = λ e. refl }
-only_speed o bs (Functions group bits) = record { vars = refl; states = refl; functions = λ k h. refl; others = λ e. refl }
-only_speed o bs (BinaryStateShort on number) = record { vars = refl; states = refl; functions = λ k h. refl; others = λ e. refl }
-only_speed o bs (BinaryStateLong on number) = record { vars = refl; states = refl; functions = λ k h. refl; others = λ e. refl }
-only_speed o bs (AccelerationAdjustment value) = record { vars = refl; states = refl; functions = λ k h. refl; others = λ e. refl }
-only_speed o bs (DecelerationAdjustment value) = record { vars = refl; states = refl; functions = λ k h. refl; others = λ e. refl }
-only_speed o bs (Output number on) = record { vars = refl; states = refl; functions = λ k h. refl; others = λ e. refl }
-only_speed o bs (Aspect number) = record { vars = refl; states = refl; functions = λ k h. refl; others = λ e. refl }
-only_speed o bs (VerifyByte cv value) = record { vars = refl; states = refl; functions = λ k h. refl; others = λ e. refl }
-only_speed o bs (WriteByte cv value) = record { vars = refl; states = refl; functions = λ k h. refl; others = λ e. refl }
-only_speed o bs (VerifyBit cv bit value) = record { vars = refl; states = refl; functions = λ k h. refl; others = λ e. refl }
-only_speed o bs (WriteBit cv bit value) = record { vars = refl; states = refl; functions = λ k h. refl; others = λ e. refl }
 only_speed o bs (Speed126 forward code) = record { vars = refl; states = refl; functions = λ k h. refl; others = λ e. absurd (true≢false e) }
 only_speed o bs (Speed forward code) =
     record {
@@ -162,6 +114,7 @@ only_speed o bs (Speed forward code) =
       functions = λ k h. short_functions o.rec.state _ _ code k h;
       others = λ e. absurd (true≢false e);
     }
+only_speed o bs i = record { vars = refl; states = refl; functions = λ k h. refl; others = λ e. refl }
 
 -- one function of a list with some of them replaced
 pasted_at :
@@ -200,77 +153,59 @@ pasted_at fs bs first k h = ⊎_elim before (λ l. ⊎_elim (inside l) (behind l
         let d : get_or fs (first + length bs + (k - first - length bs)) false ≡ get_or fs k false = ap (λ n. get_or fs n false) e in
         grind (arith, nat_tests)
 
-four_at : (x j : ℕ) → j < 4 → get_or (four_bits x) j false ≡ bit_of x j
-four_at x zero h = refl
-four_at x (suc zero) h = refl
-four_at x (suc (suc zero)) h = refl
-four_at x (suc (suc (suc zero))) h = refl
-four_at x (suc (suc (suc (suc j)))) h = absurd (omega arith)
-
-eight_at : (x j : ℕ) → j < 8 → get_or (eight_bits x) j false ≡ bit_of x j
-eight_at x zero h = refl
-eight_at x (suc zero) h = refl
-eight_at x (suc (suc zero)) h = refl
-eight_at x (suc (suc (suc zero))) h = refl
-eight_at x (suc (suc (suc (suc zero)))) h = refl
-eight_at x (suc (suc (suc (suc (suc zero))))) h = refl
-eight_at x (suc (suc (suc (suc (suc (suc zero)))))) h = refl
-eight_at x (suc (suc (suc (suc (suc (suc (suc zero))))))) h = refl
-eight_at x (suc (suc (suc (suc (suc (suc (suc (suc j)))))))) h = absurd (omega arith)
-
--- a part of the functions as the bits have them
+-- a part of the functions as the lowest bits have them
 part_at :
-    (fs bs : List Bool) (first width bits k : ℕ)
-    → length bs ≡ width
-    → ((j : ℕ) → j < width → get_or bs j false ≡ bit_of bits j)
-    → first + width ≤ length fs
-    → get_or (pasted fs first bs) k false ≡ cond (leb first k && ltb k (first + width)) (bit_of bits (k - first)) (get_or fs k false)
-part_at fs bs first width bits k e each h = pasted_at fs bs first k (omega arith) ∙ ap (λ w. cond (leb first k && ltb k (first + w)) (get_or bs (k - first) false) (get_or fs k false)) e ∙ go (leb first k && ltb k (first + width)) refl
+    (fs : List Bool) (first n bits k : ℕ)
+    → first + n ≤ length fs
+    → get_or (pasted fs first (low_bits n bits)) k false ≡ cond (leb first k && ltb k (first + n)) (bit_of bits (k - first)) (get_or fs k false)
+part_at fs first n bits k h =
+    let e = length-low_bits n bits in
+    pasted_at fs (low_bits n bits) first k (omega (arith, e)) ∙ ap (λ w. cond (leb first k && ltb k (first + w)) (get_or (low_bits n bits) (k - first) false) (get_or fs k false)) e ∙ go (leb first k && ltb k (first + n)) refl
   where
-    go : (c : Bool) → (leb first k && ltb k (first + width)) ≡ c → cond c (get_or bs (k - first) false) (get_or fs k false) ≡ cond c (bit_of bits (k - first)) (get_or fs k false)
-    go true f = each (k - first) (grind (arith, nat_tests))
+    go : (c : Bool) → (leb first k && ltb k (first + n)) ≡ c → cond c (get_or (low_bits n bits) (k - first) false) (get_or fs k false) ≡ cond c (bit_of bits (k - first)) (get_or fs k false)
+    go true f = low_bit n bits (k - first) (grind (arith, nat_tests))
     go false f = refl
 
 groups_switch : GroupsSwitchTheirOwn
 groups_switch fs F0ToF4 bits k light l h = go light
   where
-    part : get_or (pasted fs 1 (four_bits bits)) k false ≡ cond (is_in_group F0ToF4 k) (bit_of bits (k - 1)) (get_or fs k false)
-    part = part_at fs (four_bits bits) 1 4 bits k refl (four_at bits) (omega arith)
+    part : get_or (pasted fs 1 (low_bits 4 bits)) k false ≡ cond (is_in_group F0ToF4 k) (bit_of bits (k - 1)) (get_or fs k false)
+    part = part_at fs 1 4 bits k (omega arith)
 
     go : (c : Bool) → get_or (switched fs F0ToF4 bits c) k false ≡ cond (is_in_group F0ToF4 k) (bit_of bits (k - 1)) (get_or fs k false)
-    go true = get_or-set_other (pasted fs 1 (four_bits bits)) 0 k (bit_of bits 4) false (omega arith) ∙ part
+    go true = get_or-set_other (pasted fs 1 (low_bits 4 bits)) 0 k (bit_of bits 4) false (omega arith) ∙ part
     go false = part
-groups_switch fs F5ToF8 bits k light l h = part_at fs (four_bits bits) 5 4 bits k refl (four_at bits) (omega arith)
-groups_switch fs F9ToF12 bits k light l h = part_at fs (four_bits bits) 9 4 bits k refl (four_at bits) (omega arith)
-groups_switch fs F13ToF20 bits k light l h = part_at fs (eight_bits bits) 13 8 bits k refl (eight_at bits) (omega arith)
-groups_switch fs F21ToF28 bits k light l h = part_at fs (eight_bits bits) 21 8 bits k refl (eight_at bits) (omega arith)
-groups_switch fs F29ToF36 bits k light l h = part_at fs (eight_bits bits) 29 8 bits k refl (eight_at bits) (omega arith)
-groups_switch fs F37ToF44 bits k light l h = part_at fs (eight_bits bits) 37 8 bits k refl (eight_at bits) (omega arith)
-groups_switch fs F45ToF52 bits k light l h = part_at fs (eight_bits bits) 45 8 bits k refl (eight_at bits) (omega arith)
-groups_switch fs F53ToF60 bits k light l h = part_at fs (eight_bits bits) 53 8 bits k refl (eight_at bits) (omega arith)
-groups_switch fs F61ToF68 bits k light l h = part_at fs (eight_bits bits) 61 8 bits k refl (eight_at bits) (omega arith)
+groups_switch fs F5ToF8 bits k light l h = part_at fs 5 4 bits k (omega arith)
+groups_switch fs F9ToF12 bits k light l h = part_at fs 9 4 bits k (omega arith)
+groups_switch fs F13ToF20 bits k light l h = part_at fs 13 8 bits k (omega arith)
+groups_switch fs F21ToF28 bits k light l h = part_at fs 21 8 bits k (omega arith)
+groups_switch fs F29ToF36 bits k light l h = part_at fs 29 8 bits k (omega arith)
+groups_switch fs F37ToF44 bits k light l h = part_at fs 37 8 bits k (omega arith)
+groups_switch fs F45ToF52 bits k light l h = part_at fs 45 8 bits k (omega arith)
+groups_switch fs F53ToF60 bits k light l h = part_at fs 53 8 bits k (omega arith)
+groups_switch fs F61ToF68 bits k light l h = part_at fs 61 8 bits k (omega arith)
 
 light_by_one : LightByGroupOne
 light_by_one fs F0ToF4 bits light l = go light
   where
-    part : get_or (pasted fs 1 (four_bits bits)) 0 false ≡ get_or fs 0 false
-    part = part_at fs (four_bits bits) 1 4 bits 0 refl (four_at bits) (omega arith)
+    part : get_or (pasted fs 1 (low_bits 4 bits)) 0 false ≡ get_or fs 0 false
+    part = part_at fs 1 4 bits 0 (omega arith)
 
-    size : 0 < length (pasted fs 1 (four_bits bits))
-    size = omega (arith, length-append (take 1 fs) (four_bits bits ++ drop 5 fs), length-append (four_bits bits) (drop 5 fs))
+    size : 0 < length (pasted fs 1 (low_bits 4 bits))
+    size = omega (arith, length-append (take 1 fs) (low_bits 4 bits ++ drop 5 fs), length-append (low_bits 4 bits) (drop 5 fs))
 
     go : (c : Bool) → get_or (switched fs F0ToF4 bits c) 0 false ≡ cond (true && c) (bit_of bits 4) (get_or fs 0 false)
-    go true = get_or-set_same (pasted fs 1 (four_bits bits)) 0 (bit_of bits 4) false size
+    go true = get_or-set_same (pasted fs 1 (low_bits 4 bits)) 0 (bit_of bits 4) false size
     go false = part
-light_by_one fs F5ToF8 bits light l = part_at fs (four_bits bits) 5 4 bits 0 refl (four_at bits) (omega arith)
-light_by_one fs F9ToF12 bits light l = part_at fs (four_bits bits) 9 4 bits 0 refl (four_at bits) (omega arith)
-light_by_one fs F13ToF20 bits light l = part_at fs (eight_bits bits) 13 8 bits 0 refl (eight_at bits) (omega arith)
-light_by_one fs F21ToF28 bits light l = part_at fs (eight_bits bits) 21 8 bits 0 refl (eight_at bits) (omega arith)
-light_by_one fs F29ToF36 bits light l = part_at fs (eight_bits bits) 29 8 bits 0 refl (eight_at bits) (omega arith)
-light_by_one fs F37ToF44 bits light l = part_at fs (eight_bits bits) 37 8 bits 0 refl (eight_at bits) (omega arith)
-light_by_one fs F45ToF52 bits light l = part_at fs (eight_bits bits) 45 8 bits 0 refl (eight_at bits) (omega arith)
-light_by_one fs F53ToF60 bits light l = part_at fs (eight_bits bits) 53 8 bits 0 refl (eight_at bits) (omega arith)
-light_by_one fs F61ToF68 bits light l = part_at fs (eight_bits bits) 61 8 bits 0 refl (eight_at bits) (omega arith)
+light_by_one fs F5ToF8 bits light l = part_at fs 5 4 bits 0 (omega arith)
+light_by_one fs F9ToF12 bits light l = part_at fs 9 4 bits 0 (omega arith)
+light_by_one fs F13ToF20 bits light l = part_at fs 13 8 bits 0 (omega arith)
+light_by_one fs F21ToF28 bits light l = part_at fs 21 8 bits 0 (omega arith)
+light_by_one fs F29ToF36 bits light l = part_at fs 29 8 bits 0 (omega arith)
+light_by_one fs F37ToF44 bits light l = part_at fs 37 8 bits 0 (omega arith)
+light_by_one fs F45ToF52 bits light l = part_at fs 45 8 bits 0 (omega arith)
+light_by_one fs F53ToF60 bits light l = part_at fs 53 8 bits 0 (omega arith)
+light_by_one fs F61ToF68 bits light l = part_at fs 61 8 bits 0 (omega arith)
 
 -- whether or not it acts
 either : (c : Bool) (s u : MobileState) → u.functions ≡ s.functions → (cond c u s).functions ≡ s.functions
@@ -278,25 +213,11 @@ either true s u e = e
 either false s u e = refl
 
 others_keep : OthersKeepFunctions
-others_keep o r bs NoOperation e = either _ o.rec.state _ refl
 others_keep o r bs Reset e = absurd (true≢false e)
 others_keep o r bs HardReset e = absurd (true≢false e)
-others_keep o r bs (AdvancedAddressing on) e = either _ o.rec.state _ refl
-others_keep o r bs AcknowledgmentRequest e = either _ o.rec.state _ refl
-others_keep o r bs (Consist reversed address) e = either _ o.rec.state _ refl
 others_keep o r bs (Speed forward code) e = absurd (true≢false e)
-others_keep o r bs (Speed126 forward code) e = either _ o.rec.state _ refl
 others_keep o r bs (Functions group bits) e = absurd (true≢false e)
-others_keep o r bs (BinaryStateShort on number) e = either _ o.rec.state _ refl
-others_keep o r bs (BinaryStateLong on number) e = either _ o.rec.state _ refl
-others_keep o r bs (AccelerationAdjustment value) e = either _ o.rec.state _ refl
-others_keep o r bs (DecelerationAdjustment value) e = either _ o.rec.state _ refl
-others_keep o r bs (VerifyByte cv value) e = either _ o.rec.state _ refl
-others_keep o r bs (WriteByte cv value) e = either _ o.rec.state _ refl
-others_keep o r bs (VerifyBit cv bit value) e = either _ o.rec.state _ refl
-others_keep o r bs (WriteBit cv bit value) e = either _ o.rec.state _ refl
-others_keep o r bs (Output number on) e = either _ o.rec.state _ refl
-others_keep o r bs (Aspect number) e = either _ o.rec.state _ refl
+others_keep o r bs i e = either _ o.rec.state _ refl
 
 pub laws : Laws
 laws = record {

@@ -5,18 +5,15 @@ use Rattle.packet.specs.declared.instruction.Instruction.TheVariants.{NoOperatio
 use Rattle.packet.specs.declared.cv.CvNumber.{CvNumber}
 use Rattle.state.specs.declared.waiting.WaitingWrite.{WaitingWrite}
 use Rattle.state.specs.Bits.{bit_of, with_bit}
-use Rattle.state.specs.Packing.{same_waiting}
+use Rattle.state.specs.Packing.{matches}
 use Rattle.decoder.specs.declared.effect.Change.{Change}
 use Rattle.decoder.specs.declared.effect.Change.TheVariants.{Byte, Bit}
 use Rattle.decoder.specs.declared.effect.Access.{Access}
 use Rattle.decoder.specs.declared.role.Role.{Role}
 use Rattle.decoder.specs.declared.role.Role.TheVariants as role
 
-abbrev pub verifying : CvNumber → Change → Option Access
-verifying cv c = Some (record { cv = cv; writes = false; change = c })
-
-abbrev pub writing : CvNumber → Change → Option Access
-writing cv c = Some (record { cv = cv; writes = true; change = c })
+abbrev pub access : CvNumber → Bool → Change → Access
+access cv writes c = record { cv = cv; writes = writes; change = c }
 
 abbrev pub access_of : Instruction → Option Access
 access_of NoOperation = None
@@ -32,10 +29,10 @@ access_of (BinaryStateShort on number) = None
 access_of (BinaryStateLong on number) = None
 access_of (AccelerationAdjustment value) = None
 access_of (DecelerationAdjustment value) = None
-access_of (VerifyByte cv value) = verifying cv (Byte value)
-access_of (WriteByte cv value) = writing cv (Byte value)
-access_of (VerifyBit cv bit value) = verifying cv (Bit bit value)
-access_of (WriteBit cv bit value) = writing cv (Bit bit value)
+access_of (VerifyByte cv value) = Some (access cv false (Byte value))
+access_of (WriteByte cv value) = Some (access cv true (Byte value))
+access_of (VerifyBit cv bit value) = Some (access cv false (Bit bit value))
+access_of (WriteBit cv bit value) = Some (access cv true (Bit bit value))
 access_of (Output number on) = None
 access_of (Aspect number) = None
 
@@ -52,11 +49,6 @@ agrees (Bit b on) v = same_truth (bit_of v (b % 8)) on
 abbrev pub result : Change → ℕ → ℕ
 result (Byte x) v = x
 result (Bit b on) v = with_bit v (b % 8) on
-
--- this very packet waits
-abbrev pub matches : Option WaitingWrite → WaitingWrite → Bool
-matches None p = false
-matches (Some q) p = same_waiting q p
 
 -- packets never write the seventh and the eighth of the kind's own variables
 abbrev pub barred : ℕ → ℕ → Bool

@@ -1,13 +1,12 @@
 -- What an accessory decoder does at an instruction that it hears.
-use Rattle.std.specs.Prelude.{ℕ, ◌%◌, Bool, true, cond, List, Some, None, Option, slice_set}
+use Rattle.std.specs.Prelude.{ℕ, ◌%◌, Bool, true, cond, ◌||◌, List, Some, None, Option, slice_set}
 use Rattle.packet.specs.declared.instruction.Instruction.{Instruction}
 use Rattle.packet.specs.declared.instruction.Instruction.TheVariants.{NoOperation, Reset, HardReset, AdvancedAddressing, AcknowledgmentRequest, Consist, Speed, Speed126, Functions, BinaryStateShort, BinaryStateLong, AccelerationAdjustment, DecelerationAdjustment, VerifyByte, WriteByte, VerifyBit, WriteBit, Output, Aspect}
 use Rattle.state.specs.declared.volatile.BasicState.{BasicState}
 use Rattle.state.specs.declared.volatile.ExtendedState.{ExtendedState}
 use Rattle.state.specs.declared.waiting.WaitingWrite.{WaitingWrite}
 use Rattle.decoder.specs.declared.effect.Effect.{Effect}
-use Rattle.decoder.specs.declared.effect.Effect.TheVariants as effect
-use Rattle.decoder.specs.declared.role.Role.{Role}
+use Rattle.decoder.specs.declared.heard.Heard.{Heard}
 use Rattle.decoder.specs.declared.view.AccessoryView.{AccessoryView}
 use Rattle.decoder.specs.Accesses.{access_of, waits_after, access_acts}
 use Rattle.decoder.specs.Mobiles.{access_effect}
@@ -62,11 +61,15 @@ abbrev pub acts_or : {X : Type 0} → Option X → Bool → Bool
 acts_or None other = other
 acts_or (Some x) other = true
 
-abbrev pub basic_acts : BasicState → AccessoryView → WaitingWrite → Instruction → Bool
-basic_acts s v p i = acts_or (output_of i) (access_acts 512 s.waiting p v.value (access_of i))
+-- the same, where it is known whether the instruction is the kind's own
+abbrev pub acts_as : Bool → Option WaitingWrite → AccessoryView → Heard → Bool
+acts_as shows w v h = shows || access_acts 512 w h.packet v.value (access_of h.instruction)
 
-abbrev pub extended_acts : ExtendedState → AccessoryView → WaitingWrite → Instruction → Bool
-extended_acts s v p i = acts_or (aspect_of i) (access_acts 512 s.waiting p v.value (access_of i))
+abbrev pub basic_acts : BasicState → AccessoryView → Heard → Bool
+basic_acts s v h = acts_or (output_of h.instruction) (access_acts 512 s.waiting h.packet v.value (access_of h.instruction))
+
+abbrev pub extended_acts : ExtendedState → AccessoryView → Heard → Bool
+extended_acts s v h = acts_or (aspect_of h.instruction) (access_acts 512 s.waiting h.packet v.value (access_of h.instruction))
 
 abbrev pub outputs_after : List Bool → Option (ℕ × Bool) → List Bool
 outputs_after os None = os
@@ -77,25 +80,25 @@ aspect_after a None = a
 aspect_after a (Some b) = b
 
 -- a packet that is heard in a role: the volatile part afterwards
-abbrev pub basic_after : BasicState → AccessoryView → Role → WaitingWrite → Instruction → BasicState
-basic_after s v r p i =
+abbrev pub basic_after : BasicState → AccessoryView → Heard → BasicState
+basic_after s v h =
     record {
-      outputs = outputs_after s.outputs (output_of i);
-      waiting = waits_after s.waiting r p i;
-      reply = reply_after v.config v.value r (basic_acts s v p i) i;
+      outputs = outputs_after s.outputs (output_of h.instruction);
+      waiting = waits_after s.waiting h.role h.packet h.instruction;
+      reply = reply_after v.config v.value h.role (basic_acts s v h) h.instruction;
     }
 
-abbrev pub extended_after : ExtendedState → AccessoryView → Role → WaitingWrite → Instruction → ExtendedState
-extended_after s v r p i =
+abbrev pub extended_after : ExtendedState → AccessoryView → Heard → ExtendedState
+extended_after s v h =
     record {
-      aspect = aspect_after s.aspect (aspect_of i);
-      waiting = waits_after s.waiting r p i;
-      reply = reply_after v.config v.value r (extended_acts s v p i) i;
+      aspect = aspect_after s.aspect (aspect_of h.instruction);
+      waiting = waits_after s.waiting h.role h.packet h.instruction;
+      reply = reply_after v.config v.value h.role (extended_acts s v h) h.instruction;
     }
 
 -- and what becomes of the variables
-abbrev pub basic_plan : BasicState → AccessoryView → WaitingWrite → Instruction → Effect
-basic_plan s v p i = cond (basic_acts s v p i) (access_effect v.value (access_of i)) effect.Nothing
+abbrev pub basic_plan : BasicState → AccessoryView → Heard → Option Effect
+basic_plan s v h = cond (basic_acts s v h) (access_effect v.value (access_of h.instruction)) None
 
-abbrev pub extended_plan : ExtendedState → AccessoryView → WaitingWrite → Instruction → Effect
-extended_plan s v p i = cond (extended_acts s v p i) (access_effect v.value (access_of i)) effect.Nothing
+abbrev pub extended_plan : ExtendedState → AccessoryView → Heard → Option Effect
+extended_plan s v h = cond (extended_acts s v h) (access_effect v.value (access_of h.instruction)) None

@@ -6,10 +6,10 @@ use Rattle.packet.specs.declared.instruction.Instruction.{Instruction}
 use Rattle.format.specs.Reading.{Told, packet_read}
 use Rattle.state.specs.declared.waiting.WaitingWrite.{WaitingWrite}
 use Rattle.state.specs.Packing.{packed}
-use Rattle.state.specs.Starting.{mobile_start, basic_start, extended_start}
 use Rattle.decoder.specs.declared.effect.Access.{Access}
 use Rattle.decoder.specs.declared.effect.Effect.{Effect}
 use Rattle.decoder.specs.declared.effect.Effect.TheVariants as effect
+use Rattle.decoder.specs.declared.heard.Heard.{Heard}
 use Rattle.decoder.specs.declared.records.Mobile.{Mobile}
 use Rattle.decoder.specs.declared.records.Basic.{Basic}
 use Rattle.decoder.specs.declared.records.Extended.{Extended}
@@ -17,6 +17,7 @@ use Rattle.decoder.specs.declared.role.Role.{Role}
 use Rattle.decoder.specs.declared.view.MobileView.{MobileView}
 use Rattle.decoder.specs.declared.view.AccessoryView.{AccessoryView}
 use Rattle.decoder.specs.Accesses.{access_of}
+use Rattle.decoder.specs.Fresh.{fresh_mobile, fresh_basic, fresh_extended}
 use Rattle.decoder.specs.Hearing.{own_address, mobile_role, basic_role, extended_role}
 use Rattle.decoder.specs.Mobiles.{mobile_after, mobile_noted, mobile_plan}
 use Rattle.decoder.specs.Accessories.{basic_after, extended_after, basic_plan, extended_plan}
@@ -51,14 +52,18 @@ abbrev pub accessory_view : List ℕ → Option Access → AccessoryView
 accessory_view vars a = record { config = variable vars 541; value = named vars a }
 
 -- what an effect leaves of the variables
-abbrev pub applied : Effect → List ℕ → List ℕ
-applied effect.Nothing vars = vars
-applied (effect.Put cv x) vars = slice_set vars (cv.number - 1) x
-applied (effect.Consist x) vars = slice_set vars 18 x
-applied (effect.Config x) vars = slice_set vars 28 x
-applied (effect.Acceleration x) vars = slice_set vars 22 x
-applied (effect.Deceleration x) vars = slice_set vars 23 x
-applied effect.HardReset vars = slice_set (slice_set (slice_set (slice_set vars 18 0) 28 2) 30 16) 31 0
+abbrev pub applied : Option Effect → List ℕ → List ℕ
+applied None vars = vars
+applied (Some (effect.Put cv x)) vars = slice_set vars (cv.number - 1) x
+applied (Some (effect.Consist x)) vars = slice_set vars 18 x
+applied (Some (effect.Config x)) vars = slice_set vars 28 x
+applied (Some (effect.Acceleration x)) vars = slice_set vars 22 x
+applied (Some (effect.Deceleration x)) vars = slice_set vars 23 x
+applied (Some effect.HardReset) vars = slice_set (slice_set (slice_set (slice_set vars 18 0) 28 2) 30 16) 31 0
+
+-- a packet, these bytes, as it is heard
+abbrev pub as_heard : Role → List ℕ → Instruction → Heard
+as_heard r bs i = record { role = r; packet = packed bs; instruction = i }
 
 -- the rules of a kind of decoder
 pub record Rules (X : Type 0) : Type 0 where
@@ -79,8 +84,8 @@ abbrev pub mobile_rules : Rules Mobile
 mobile_rules = record {
   offset = 0;
   hears = λ o t. mobile_role (mobile_view o.vars None) t;
-  obeys = λ o r bs i. own (record { state = mobile_after o.rec.state (mobile_view o.vars (access_of i)) r (packed bs) i }) (applied (mobile_plan o.rec.state (mobile_view o.vars (access_of i)) r (packed bs) i) o.vars);
-  starts = λ x. record { state = mobile_start };
+  obeys = λ o r bs i. own (record { state = mobile_after o.rec.state (mobile_view o.vars (access_of i)) (as_heard r bs i) }) (applied (mobile_plan o.rec.state (mobile_view o.vars (access_of i)) (as_heard r bs i)) o.vars);
+  starts = λ x. fresh_mobile;
   unwaits = λ x. record { state = mobile_noted x.state None x.state.reply };
   waiting = λ x. x.state.waiting;
 }
@@ -89,8 +94,8 @@ abbrev pub basic_rules : Rules Basic
 basic_rules = record {
   offset = 512;
   hears = λ o t. basic_role o.rec.address t;
-  obeys = λ o r bs i. own (record { address = o.rec.address; state = basic_after o.rec.state (accessory_view o.vars (access_of i)) r (packed bs) i }) (applied (basic_plan o.rec.state (accessory_view o.vars (access_of i)) (packed bs) i) o.vars);
-  starts = λ x. record { address = x.address; state = basic_start };
+  obeys = λ o r bs i. own (record { address = o.rec.address; state = basic_after o.rec.state (accessory_view o.vars (access_of i)) (as_heard r bs i) }) (applied (basic_plan o.rec.state (accessory_view o.vars (access_of i)) (as_heard r bs i)) o.vars);
+  starts = λ x. fresh_basic x.address;
   unwaits = λ x. record { address = x.address; state = record { outputs = x.state.outputs; waiting = None; reply = x.state.reply } };
   waiting = λ x. x.state.waiting;
 }
@@ -99,8 +104,8 @@ abbrev pub extended_rules : Rules Extended
 extended_rules = record {
   offset = 512;
   hears = λ o t. extended_role o.rec.address t;
-  obeys = λ o r bs i. own (record { address = o.rec.address; state = extended_after o.rec.state (accessory_view o.vars (access_of i)) r (packed bs) i }) (applied (extended_plan o.rec.state (accessory_view o.vars (access_of i)) (packed bs) i) o.vars);
-  starts = λ x. record { address = x.address; state = extended_start };
+  obeys = λ o r bs i. own (record { address = o.rec.address; state = extended_after o.rec.state (accessory_view o.vars (access_of i)) (as_heard r bs i) }) (applied (extended_plan o.rec.state (accessory_view o.vars (access_of i)) (as_heard r bs i)) o.vars);
+  starts = λ x. fresh_extended x.address;
   unwaits = λ x. record { address = x.address; state = record { aspect = x.state.aspect; waiting = None; reply = x.state.reply } };
   waiting = λ x. x.state.waiting;
 }

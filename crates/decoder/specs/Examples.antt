@@ -8,17 +8,17 @@ use Rattle.state.specs.declared.speed.Speed.{Speed}
 use Rattle.state.specs.declared.speed.Speed.TheVariants.{Stop, EmergencyStop, Running}
 use Rattle.state.specs.Groups.{function_at}
 use Rattle.state.specs.Kept.{state_at}
-use Rattle.state.specs.Starting.{mobile_start, basic_start, extended_start}
 use Rattle.decoder.specs.declared.records.Mobile.{Mobile}
 use Rattle.decoder.specs.declared.records.Basic.{Basic}
 use Rattle.decoder.specs.declared.records.Extended.{Extended}
+use Rattle.decoder.specs.Fresh.{fresh_mobile, fresh_basic, fresh_extended}
 use Rattle.decoder.specs.Alone.{Own, Event, own, variable, hearing, life, mobile_rules, basic_rules, extended_rules}
 use Rattle.decoder.specs.Alone.Event.{heard}
 
 -- a mobile decoder at power-up, by its variables 1, 17, 18 and 29
 abbrev pub mobile_with : ℕ → ℕ → ℕ → ℕ → Own Mobile
 mobile_with short high low config =
-    own (record { state = mobile_start }) (slice_set (slice_set (slice_set (slice_set (replicate 1024 0) 0 short) 16 high) 17 low) 28 config)
+    own fresh_mobile (slice_set (slice_set (slice_set (slice_set (replicate 1024 0) 0 short) 16 high) 17 low) 28 config)
 
 -- short address 3 in 28 steps and in 14, and long address 1000
 abbrev pub mobile3 : Own Mobile
@@ -31,10 +31,10 @@ abbrev pub mobile1000 : Own Mobile
 mobile1000 = mobile_with 3 195 232 34
 
 abbrev pub basic_at : ℕ → Own Basic
-basic_at a = own (record { address = a; state = basic_start }) (replicate 1024 0)
+basic_at a = own (fresh_basic a) (replicate 1024 0)
 
 abbrev pub extended_at : ℕ → Own Extended
-extended_at a = own (record { address = a; state = extended_start }) (replicate 1024 0)
+extended_at a = own (fresh_extended a) (replicate 1024 0)
 
 -- the step and its scale, where the decoder runs
 abbrev pub step_in : Speed → Option (ℕ × Scale)

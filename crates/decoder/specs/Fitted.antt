@@ -1,11 +1,11 @@
 -- A decoder as it is fitted: as at power-up, and each of its variables with its first value.
 use Rattle.std.specs.Prelude.{ℕ, ◌+◌, ◌/◌, ◌%◌, List, replicate, slice_set}
-use Rattle.state.specs.Starting.{mobile_start, basic_start, extended_start}
 use Rattle.decoder.specs.declared.records.Mobile.{Mobile}
 use Rattle.decoder.specs.declared.records.Basic.{Basic}
 use Rattle.decoder.specs.declared.records.Extended.{Extended}
 use Rattle.decoder.specs.declared.role.Address.{Address}
 use Rattle.decoder.specs.declared.role.Address.TheVariants.{Short, Long}
+use Rattle.decoder.specs.Fresh.{fresh_mobile, fresh_basic, fresh_extended}
 use Rattle.decoder.specs.Alone.{Own, own}
 
 -- all 1024 variables are 0
@@ -23,10 +23,10 @@ mobile_variables (Short a) = slice_set mobile_defaults 0 a
 mobile_variables (Long a) = slice_set (slice_set (slice_set mobile_defaults 16 ((192 + a / 256) % 256)) 17 (a % 256)) 28 34
 
 abbrev pub mobile_fitted : Address → Own Mobile
-mobile_fitted a = own (record { state = mobile_start }) (mobile_variables a)
+mobile_fitted a = own fresh_mobile (mobile_variables a)
 
 abbrev pub basic_fitted : ℕ → Own Basic
-basic_fitted a = own (record { address = a; state = basic_start }) blank
+basic_fitted a = own (fresh_basic a) blank
 
 abbrev pub extended_fitted : ℕ → Own Extended
-extended_fitted a = own (record { address = a; state = extended_start }) blank
+extended_fitted a = own (fresh_extended a) blank

@@ -7,16 +7,15 @@ use Rattle.packet.specs.declared.instruction.Instruction.TheVariants.{NoOperatio
 use Rattle.packet.specs.declared.target.Target.{Target}
 use Rattle.format.specs.Reading.{packet_read}
 use Rattle.state.specs.declared.step.Step.{Step}
-use Rattle.state.specs.declared.volatile.Reply.TheVariants as reply
 use Rattle.state.specs.Bits.{bit_of}
 use Rattle.state.specs.Groups.{switched}
-use Rattle.state.specs.Packing.{packed}
+use Rattle.state.specs.Packing.{packed, matches}
 use Rattle.state.specs.Scales.{top}
 use Rattle.state.specs.Starting.{mobile_start}
 use Rattle.decoder.specs.declared.records.Mobile.{Mobile}
 use Rattle.decoder.specs.declared.role.Role.{Role}
 use Rattle.decoder.specs.declared.role.Role.TheVariants as role
-use Rattle.decoder.specs.Accesses.{matches, is_write}
+use Rattle.decoder.specs.Accesses.{is_write}
 use Rattle.decoder.specs.Replies.{reply_after}
 use Rattle.decoder.specs.Mobiles.{is_speed, mobile_noted}
 use Rattle.decoder.specs.Alone.{Own, Rules, hearing, live, mobile_rules, basic_rules, extended_rules}
@@ -35,7 +34,7 @@ pub record KindLaws {X : Type 0} (m : Rules X) : Type 0 where
 abbrev pub ReplyNeedsAll : Type 0
 ReplyNeedsAll =
     (config v : ℕ) (r : Role) (acted : Bool) (i : Instruction)
-    → (reply_after config v r acted i ≡ reply.None) ⊎ ((r ≡ role.Own) × (bit_of config 3 ≡ true) × (acted ≡ true))
+    → (reply_after config v r acted i ≡ None) ⊎ ((r ≡ role.Own) × (bit_of config 3 ≡ true) × (acted ≡ true))
 
 -- a reset brings exactly the volatile part to its power-up state; the reply to it is set after that
 abbrev pub ResetIsPowerUp : Type 0
@@ -49,7 +48,7 @@ pub record OnlySpeed (o after : Own Mobile) (i : Instruction) : Type 0 where
   pub vars : after.vars ≡ o.vars
   pub states : after.rec.state.states ≡ o.rec.state.states
   pub functions : (k : ℕ) → 1 ≤ k → slice_index_or after.rec.state.functions.on k false ≡ slice_index_or o.rec.state.functions.on k false
-  pub others : is_speed i ≡ false → after.rec.state ≡ mobile_noted o.rec.state None reply.None
+  pub others : is_speed i ≡ false → after.rec.state ≡ mobile_noted o.rec.state None None
 
 abbrev pub ByConsistOnlySpeed : Type 0
 ByConsistOnlySpeed = (o : Own Mobile) (bs : List ℕ) (i : Instruction) → OnlySpeed o (mobile_rules.obeys o role.Consist bs i) i

@@ -3,6 +3,7 @@ pub mod Hearing
 pub mod Replies
 pub mod Mobiles
 pub mod Accessories
+pub mod Fresh
 pub mod Alone
 pub mod Fitted
 pub mod Persistence

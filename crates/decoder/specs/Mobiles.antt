@@ -17,6 +17,7 @@ use Rattle.state.specs.Starting.{mobile_start}
 use Rattle.decoder.specs.declared.effect.Access.{Access}
 use Rattle.decoder.specs.declared.effect.Effect.{Effect}
 use Rattle.decoder.specs.declared.effect.Effect.TheVariants as effect
+use Rattle.decoder.specs.declared.heard.Heard.{Heard}
 use Rattle.decoder.specs.declared.role.Role.{Role}
 use Rattle.decoder.specs.declared.role.Role.TheVariants as role
 use Rattle.decoder.specs.declared.view.MobileView.{MobileView}
@@ -134,42 +135,42 @@ mobile_changed s v r (Output number on) = s
 mobile_changed s v r (Aspect number) = s
 
 -- what a long form that acts does to its variable
-abbrev pub access_effect : ℕ → Option Access → Effect
-access_effect v None = effect.Nothing
-access_effect v (Some a) = cond a.writes (effect.Put a.cv (result a.change v)) effect.Nothing
+abbrev pub access_effect : ℕ → Option Access → Option Effect
+access_effect v None = None
+access_effect v (Some a) = cond a.writes (Some (effect.Put a.cv (result a.change v))) None
 
 -- and what an instruction that acts does to the variables
-abbrev pub mobile_effect : MobileView → Instruction → Effect
-mobile_effect v NoOperation = effect.Nothing
-mobile_effect v Reset = effect.Nothing
-mobile_effect v HardReset = effect.HardReset
-mobile_effect v (AdvancedAddressing on) = effect.Config (with_bit v.config 5 on)
-mobile_effect v AcknowledgmentRequest = effect.Nothing
-mobile_effect v (Consist reversed address) = effect.Consist (cond reversed 128 0 + address % 128)
-mobile_effect v (Speed forward code) = effect.Nothing
-mobile_effect v (Speed126 forward code) = effect.Nothing
-mobile_effect v (Functions group bits) = effect.Nothing
-mobile_effect v (BinaryStateShort on number) = effect.Nothing
-mobile_effect v (BinaryStateLong on number) = effect.Nothing
-mobile_effect v (AccelerationAdjustment value) = effect.Acceleration value
-mobile_effect v (DecelerationAdjustment value) = effect.Deceleration value
+abbrev pub mobile_effect : MobileView → Instruction → Option Effect
+mobile_effect v NoOperation = None
+mobile_effect v Reset = None
+mobile_effect v HardReset = Some effect.HardReset
+mobile_effect v (AdvancedAddressing on) = Some (effect.Config (with_bit v.config 5 on))
+mobile_effect v AcknowledgmentRequest = None
+mobile_effect v (Consist reversed address) = Some (effect.Consist (cond reversed 128 0 + address % 128))
+mobile_effect v (Speed forward code) = None
+mobile_effect v (Speed126 forward code) = None
+mobile_effect v (Functions group bits) = None
+mobile_effect v (BinaryStateShort on number) = None
+mobile_effect v (BinaryStateLong on number) = None
+mobile_effect v (AccelerationAdjustment value) = Some (effect.Acceleration value)
+mobile_effect v (DecelerationAdjustment value) = Some (effect.Deceleration value)
 mobile_effect v (VerifyByte cv value) = access_effect v.value (access_of (VerifyByte cv value))
 mobile_effect v (WriteByte cv value) = access_effect v.value (access_of (WriteByte cv value))
 mobile_effect v (VerifyBit cv bit value) = access_effect v.value (access_of (VerifyBit cv bit value))
 mobile_effect v (WriteBit cv bit value) = access_effect v.value (access_of (WriteBit cv bit value))
-mobile_effect v (Output number on) = effect.Nothing
-mobile_effect v (Aspect number) = effect.Nothing
+mobile_effect v (Output number on) = None
+mobile_effect v (Aspect number) = None
 
 -- with what waits and the reply
-abbrev pub mobile_noted : MobileState → Option WaitingWrite → Reply → MobileState
+abbrev pub mobile_noted : MobileState → Option WaitingWrite → Option Reply → MobileState
 mobile_noted s w r =
     record { forward = s.forward; speed = s.speed; functions = s.functions; states = s.states; waiting = w; reply = r }
 
 -- a packet that is heard in a role: the volatile part afterwards, and what becomes of the variables
-abbrev pub mobile_after : MobileState → MobileView → Role → WaitingWrite → Instruction → MobileState
-mobile_after s v r p i =
-    mobile_noted (cond (mobile_acts s v r p i) (mobile_changed s v r i) s) (waits_after s.waiting r p i)
-    (reply_after v.config v.value r (mobile_acts s v r p i) i)
+abbrev pub mobile_after : MobileState → MobileView → Heard → MobileState
+mobile_after s v h =
+    mobile_noted (cond (mobile_acts s v h.role h.packet h.instruction) (mobile_changed s v h.role h.instruction) s) (waits_after s.waiting h.role h.packet h.instruction)
+    (reply_after v.config v.value h.role (mobile_acts s v h.role h.packet h.instruction) h.instruction)
 
-abbrev pub mobile_plan : MobileState → MobileView → Role → WaitingWrite → Instruction → Effect
-mobile_plan s v r p i = cond (mobile_acts s v r p i) (mobile_effect v i) effect.Nothing
+abbrev pub mobile_plan : MobileState → MobileView → Heard → Option Effect
+mobile_plan s v h = cond (mobile_acts s v h.role h.packet h.instruction) (mobile_effect v h.instruction) None

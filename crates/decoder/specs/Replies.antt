@@ -1,5 +1,5 @@
 -- The latest reply.
-use Rattle.std.specs.Prelude.{ℕ, Bool, true, false, cond, ◌&&◌}
+use Rattle.std.specs.Prelude.{ℕ, Bool, true, false, cond, ◌&&◌, Some, None, Option}
 use Rattle.packet.specs.declared.instruction.Instruction.{Instruction}
 use Rattle.packet.specs.declared.instruction.Instruction.TheVariants.{NoOperation, Reset, HardReset, AdvancedAddressing, AcknowledgmentRequest, Consist, Speed, Speed126, Functions, BinaryStateShort, BinaryStateLong, AccelerationAdjustment, DecelerationAdjustment, VerifyByte, WriteByte, VerifyBit, WriteBit, Output, Aspect}
 use Rattle.state.specs.declared.volatile.Reply.{Reply}
@@ -36,5 +36,5 @@ answer_of v (Output number on) = reply.Acknowledgment
 answer_of v (Aspect number) = reply.Acknowledgment
 
 -- none unless the packet came to the own address, replies were enabled before, and the instruction acted
-abbrev pub reply_after : ℕ → ℕ → Role → Bool → Instruction → Reply
-reply_after config v r acted i = cond (is_own r && (bit_of config 3 && acted)) (answer_of v i) reply.None
+abbrev pub reply_after : ℕ → ℕ → Role → Bool → Instruction → Option Reply
+reply_after config v r acted i = cond (is_own r && (bit_of config 3 && acted)) (Some (answer_of v i)) None

@@ -1,71 +1,46 @@
 ghost use Rattle.std.specs.Prelude.{◌≡◌};
-ghost use Rattle.decoder.specs.Accesses.{verifying as verifying_of, writing as writing_of, access_of, agrees as agrees_of, result as result_of, matches as matches_of, barred as barred_of, is_write, writes_in, waits_after, access_acts};
+ghost use Rattle.decoder.specs.Accesses.{access_of, agrees as agrees_of, result as result_of, barred as barred_of, writes_in, waits_after, access_acts};
+ghost use Rattle.decoder.specs.Mobiles.{access_effect};
 
-use crate::effect::{Access, Change};
+use crate::effect::{Access, Change, Effect};
+use crate::heard::Heard;
 use crate::role::Role;
-use packet::{CvNumber, Instruction};
+use packet::Instruction;
 use state::{WaitingWrite, has_bit, with_bit};
-
-fn verifying(cv: CvNumber, change: Change) -> Option<Access>
-    ensures { result ≡ verifying_of cv change }
-{
-    Some(Access {
-        cv,
-        writes: false,
-        change,
-    })
-}
-
-fn writing(cv: CvNumber, change: Change) -> Option<Access>
-    ensures { result ≡ writing_of cv change }
-{
-    Some(Access {
-        cv,
-        writes: true,
-        change,
-    })
-}
 
 /// The instruction as one in the long form, if it is one.
 pub fn access_of(instruction: Instruction) -> Option<Access>
     ensures { result ≡ access_of instruction }
 {
-    match instruction {
-        Instruction::VerifyByte { cv, value } => verifying(cv, Change::Byte(value)),
-        Instruction::WriteByte { cv, value } => writing(cv, Change::Byte(value)),
-        Instruction::VerifyBit { cv, bit, value } => verifying(cv, Change::Bit { bit, on: value }),
-        Instruction::WriteBit { cv, bit, value } => writing(cv, Change::Bit { bit, on: value }),
-        _ => None,
-    }
+    let (cv, writes, change) = match instruction {
+        Instruction::VerifyByte { cv, value } => (cv, false, Change::Byte(value)),
+        Instruction::WriteByte { cv, value } => (cv, true, Change::Byte(value)),
+        Instruction::VerifyBit { cv, bit, value } => (cv, false, Change::Bit { bit, on: value }),
+        Instruction::WriteBit { cv, bit, value } => (cv, true, Change::Bit { bit, on: value }),
+        _ => return None,
+    };
+    Some(Access { cv, writes, change })
 }
 
-/// Whether a variable with this value is as the change says.
-fn agrees(change: Change, value: u8) -> bool
-    ensures { result ≡ agrees_of change value }
-{
-    match change {
-        Change::Byte(byte) => byte == value,
-        Change::Bit { bit, on } => has_bit(value, bit) == on,
+impl Change {
+    /// Whether a variable with this value is as the change says.
+    fn agrees(self, value: u8) -> bool
+        ensures { result ≡ agrees_of self value }
+    {
+        match self {
+            Change::Byte(byte) => byte == value,
+            Change::Bit { bit, on } => has_bit(value, bit) == on,
+        }
     }
-}
 
-/// What the change makes of a variable with this value.
-pub(crate) fn result(change: Change, value: u8) -> u8
-    ensures { result ≡ result_of change value }
-{
-    match change {
-        Change::Byte(byte) => byte,
-        Change::Bit { bit, on } => with_bit(value, bit, on),
-    }
-}
-
-/// Whether this very packet waits.
-fn matches(waiting: Option<WaitingWrite>, packet: WaitingWrite) -> bool
-    ensures { result ≡ matches_of waiting packet }
-{
-    match waiting {
-        Some(other) => other == packet,
-        None => false,
+    /// What the change makes of a variable with this value.
+    fn result(self, value: u8) -> u8
+        ensures { result ≡ result_of self value }
+    {
+        match self {
+            Change::Byte(byte) => byte,
+            Change::Bit { bit, on } => with_bit(value, bit, on),
+        }
     }
 }
 
@@ -73,62 +48,46 @@ fn matches(waiting: Option<WaitingWrite>, packet: WaitingWrite) -> bool
 fn barred(offset: u16, number: u16) -> bool
     ensures { result ≡ barred_of offset number }
 {
-    number.checked_sub(offset) == Some(7) || number.checked_sub(offset) == Some(8)
+    matches!(number.checked_sub(offset), Some(7 | 8))
 }
 
-fn is_write(instruction: Instruction) -> bool
-    ensures { result ≡ is_write instruction }
+/// What a long form that acts does to its variable, which has this value.
+pub(crate) fn access_effect(value: u8, access: Option<Access>) -> Option<Effect>
+    ensures { result ≡ access_effect value access }
 {
-    match access_of(instruction) {
-        Some(access) => access.writes,
-        None => false,
+    let Access { cv, writes, change } = access?;
+    writes.then_some(Effect::Put {
+        cv,
+        value: change.result(value),
+    })
+}
+
+impl Heard {
+    /// Whether it is a write that counts: one by the own address or to all.
+    fn writes(self) -> bool
+        ensures { result ≡ writes_in self.role self.instruction }
+    {
+        self.role != Role::Consist
+            && access_of(self.instruction).is_some_and(|access| access.writes)
     }
-}
 
-/// Whether the instruction is a write that counts: one by the own address or to all.
-fn writes_in(role: Role, instruction: Instruction) -> bool
-    ensures { result ≡ writes_in role instruction }
-{
-    match role {
-        Role::Everyone | Role::Own => is_write(instruction),
-        Role::Consist => false,
+    /// What waits afterwards: a write unless it is the one that waited, and after any other nothing.
+    pub(crate) fn waits_after(self, waiting: Option<WaitingWrite>) -> Option<WaitingWrite>
+        ensures { result ≡ waits_after waiting self.role self.packet self.instruction }
+    {
+        (self.writes() && !self.packet.repeats(waiting)).then_some(self.packet)
     }
-}
 
-/// What waits after a packet: a write unless it is the one that waited, and after any other nothing.
-pub(crate) fn waits_after(
-    waiting: Option<WaitingWrite>,
-    role: Role,
-    packet: WaitingWrite,
-    instruction: Instruction,
-) -> Option<WaitingWrite>
-    ensures { result ≡ waits_after waiting role packet instruction }
-{
-    if writes_in(role, instruction) && !matches(waiting, packet) {
-        Some(packet)
-    } else {
-        None
-    }
-}
-
-/// Whether a long-form instruction acts on a variable with this value.
-pub(crate) fn access_acts(
-    offset: u16,
-    waiting: Option<WaitingWrite>,
-    packet: WaitingWrite,
-    value: u8,
-    access: Option<Access>,
-) -> bool
-    ensures { result ≡ access_acts offset waiting packet value access }
-{
-    match access {
-        Some(access) => {
-            if access.writes {
-                matches(waiting, packet) && !barred(offset, access.cv.get())
-            } else {
-                agrees(access.change, value)
+    /// Whether it acts as a long form, on a variable with this value.
+    pub(crate) fn accesses(self, offset: u16, waiting: Option<WaitingWrite>, value: u8) -> bool
+        ensures { result ≡ access_acts offset waiting self.packet value (access_of self.instruction) }
+    {
+        match access_of(self.instruction) {
+            Some(access) if access.writes => {
+                self.packet.repeats(waiting) && !barred(offset, access.cv.get())
             }
+            Some(access) => access.change.agrees(value),
+            None => false,
         }
-        None => false,
     }
 }

@@ -1,113 +1,78 @@
-ghost use Rattle.std.specs.Prelude.{◌≡◌};
-ghost use Rattle.decoder.specs.Accessories.{output_of, aspect_of, basic_acts, extended_acts, basic_after, extended_after, basic_plan, extended_plan};
+ghost use Rattle.std.specs.Prelude.{◌≡◌, cond, None};
+ghost use Rattle.decoder.specs.Accesses.{access_of as access_in, waits_after};
+ghost use Rattle.decoder.specs.Replies.{reply_after};
+ghost use Rattle.decoder.specs.Mobiles.{access_effect};
+ghost use Rattle.decoder.specs.Accessories.{acts_as, basic_after, extended_after, basic_plan, extended_plan};
 
-use crate::access::{access_acts, access_of, waits_after};
+use crate::access::{access_effect, access_of};
 use crate::effect::Effect;
-use crate::mobile::access_effect;
+use crate::heard::Heard;
 use crate::records::{Basic, Extended};
-use crate::replies::reply_after;
-use crate::role::Role;
 use crate::view::AccessoryView;
 use packet::Instruction;
-use state::{BasicState, ExtendedState, WaitingWrite};
+use state::{Reply, WaitingWrite};
 
 /// The offset of the variables of accessory decoders.
 const OFFSET: u16 = 512;
 
-fn basic_acts(
-    state: &BasicState,
+/// What a packet makes of what waits, of the reply and of the variables. What the decoder shows at it always acts.
+fn settle(
+    waiting: &mut Option<WaitingWrite>,
+    reply: &mut Option<Reply>,
     view: &AccessoryView,
-    packet: WaitingWrite,
-    instruction: Instruction,
-) -> bool
-    ensures { result ≡ basic_acts state.now view.now packet instruction }
+    heard: Heard,
+    shows: bool,
+) -> Option<Effect>
+    ensures waiting { waiting.new ≡ waits_after waiting.old heard.role heard.packet heard.instruction }
+    ensures reply { reply.new ≡ reply_after view.now.config view.now.value heard.role (acts_as shows waiting.old view.now heard) heard.instruction }
+    ensures effect { result ≡ cond (acts_as shows waiting.old view.now heard) (access_effect view.now.value (access_in heard.instruction)) None }
 {
-    match instruction {
-        Instruction::Output { .. } => true,
-        _ => access_acts(
-            OFFSET,
-            state.waiting,
-            packet,
-            view.value,
-            access_of(instruction),
-        ),
+    let acted = shows || heard.accesses(OFFSET, *waiting, view.value);
+    *waiting = heard.waits_after(*waiting);
+    *reply = heard.reply(view.config, view.value, acted);
+    if acted {
+        access_effect(view.value, access_of(heard.instruction))
+    } else {
+        None
     }
 }
 
-fn extended_acts(
-    state: &ExtendedState,
-    view: &AccessoryView,
-    packet: WaitingWrite,
-    instruction: Instruction,
-) -> bool
-    ensures { result ≡ extended_acts state.now view.now packet instruction }
-{
-    match instruction {
-        Instruction::Aspect { .. } => true,
-        _ => access_acts(
-            OFFSET,
-            state.waiting,
-            packet,
-            view.value,
-            access_of(instruction),
-        ),
-    }
-}
+// The two `obey` share `settle`. A trait would have to name the fields that they set one by one, and be longer than both.
 
 impl Basic {
-    /// Obeys an instruction that is heard in a role, and answers what becomes of the variables.
-    pub fn obey(
-        &mut self,
-        view: &AccessoryView,
-        role: Role,
-        packet: WaitingWrite,
-        instruction: Instruction,
-    ) -> Effect
-        ensures effect { result ≡ basic_plan self.old.state view.now packet instruction }
-        ensures after { self.new.state ≡ basic_after self.old.state view.now role packet instruction }
+    /// Obeys a packet that it hears, and answers what becomes of the variables.
+    pub fn obey(&mut self, view: &AccessoryView, heard: Heard) -> Option<Effect>
+        ensures effect { result ≡ basic_plan self.old.state view.now heard }
+        ensures after { self.new.state ≡ basic_after self.old.state view.now heard }
         ensures address { self.new.address ≡ self.old.address }
     {
-        let acted = basic_acts(&self.state, view, packet, instruction);
-        let waiting = waits_after(self.state.waiting, role, packet, instruction);
-        let reply = reply_after(view.config, view.value, role, acted, instruction);
-        if let Instruction::Output { output, on } = instruction {
-            self.state.outputs[usize::from(output % 8)] = on;
-        }
-        self.state.waiting = waiting;
-        self.state.reply = reply;
-        if acted {
-            access_effect(view.value, access_of(instruction))
-        } else {
-            Effect::Nothing
-        }
+        let state = &mut self.state;
+        let shows = match heard.instruction {
+            Instruction::Output { output, on } => {
+                state.outputs[usize::from(output % 8)] = on;
+                true
+            }
+            _ => false,
+        };
+        settle(&mut state.waiting, &mut state.reply, view, heard, shows)
     }
 }
 
 impl Extended {
-    /// Obeys an instruction that is heard in a role, and answers what becomes of the variables.
-    pub fn obey(
-        &mut self,
-        view: &AccessoryView,
-        role: Role,
-        packet: WaitingWrite,
-        instruction: Instruction,
-    ) -> Effect
-        ensures effect { result ≡ extended_plan self.old.state view.now packet instruction }
-        ensures after { self.new.state ≡ extended_after self.old.state view.now role packet instruction }
+    /// Obeys a packet that it hears, and answers what becomes of the variables.
+    pub fn obey(&mut self, view: &AccessoryView, heard: Heard) -> Option<Effect>
+        ensures effect { result ≡ extended_plan self.old.state view.now heard }
+        ensures after { self.new.state ≡ extended_after self.old.state view.now heard }
         ensures address { self.new.address ≡ self.old.address }
     {
-        let acted = extended_acts(&self.state, view, packet, instruction);
-        let waiting = waits_after(self.state.waiting, role, packet, instruction);
-        let reply = reply_after(view.config, view.value, role, acted, instruction);
-        if let Instruction::Aspect { aspect } = instruction {
-            self.state.aspect = aspect;
-        }
-        self.state.waiting = waiting;
-        self.state.reply = reply;
-        if acted {
-            access_effect(view.value, access_of(instruction))
-        } else {
-            Effect::Nothing
-        }
+        let state = &mut self.state;
+        let shows = match heard.instruction {
+            Instruction::Aspect { aspect } => {
+                state.aspect = aspect;
+                true
+            }
+            _ => false,
+        };
+        settle(&mut state.waiting, &mut state.reply, view, heard, shows)
     }
 }

@@ -8,6 +8,7 @@ pub enum Change {
 }
 
 /// A long-form instruction: it verifies a variable, or writes it.
+// `writes` is no enum with the change in it: both kinds name a variable and a change, and most that read them read both alike.
 #[derive(Clone, Copy)]
 pub struct Access {
     pub cv: CvNumber,
@@ -18,7 +19,6 @@ pub struct Access {
 /// What an instruction does to the variables.
 #[derive(Clone, Copy)]
 pub enum Effect {
-    Nothing,
     /// One variable gets a value.
     Put { cv: CvNumber, value: u8 },
     /// Variable 19 gets a value.

@@ -1,5 +1,5 @@
 ghost use Rattle.std.specs.Prelude.{◌≡◌};
-ghost use Rattle.decoder.specs.Hearing.{own_address, is_short, is_long, is_consist, mobile_role, in_consist, by_accessory, basic_role, extended_role};
+ghost use Rattle.decoder.specs.Hearing.{own_address, is_consist, mobile_role, in_consist, by_accessory, basic_role, extended_role};
 
 use crate::records::{Basic, Extended};
 use crate::role::{Address, Role};
@@ -24,24 +24,6 @@ pub fn own_address(config: u8, short: u8, high: u8, low: u8) -> Option<Address>
     }
 }
 
-fn is_short(address: u8, own: Option<Address>) -> bool
-    ensures { result ≡ is_short address own }
-{
-    match own {
-        Some(Address::Short(other)) => address == other,
-        _ => false,
-    }
-}
-
-fn is_long(address: u16, own: Option<Address>) -> bool
-    ensures { result ≡ is_long address own }
-{
-    match own {
-        Some(Address::Long(other)) => address == other,
-        _ => false,
-    }
-}
-
 fn is_consist(address: u8, consist: u8) -> bool
     ensures { result ≡ is_consist address consist }
 {
@@ -55,23 +37,11 @@ impl MobileView {
     {
         match target {
             Target::Broadcast => Some(Role::Everyone),
-            Target::Short { address } => {
-                if is_short(address, self.own) {
-                    return Some(Role::Own);
-                }
-                if is_consist(address, self.consist) {
-                    Some(Role::Consist)
-                } else {
-                    None
-                }
-            }
-            Target::Long { address } => {
-                if is_long(address, self.own) {
-                    Some(Role::Own)
-                } else {
-                    None
-                }
-            }
+            Target::Short { address } if self.own == Some(Address::Short(address)) => Some(
+                Role::Own,
+            ),
+            Target::Short { address } if is_consist(address, self.consist) => Some(Role::Consist),
+            Target::Long { address } if self.own == Some(Address::Long(address)) => Some(Role::Own),
             _ => None,
         }
     }
@@ -80,10 +50,11 @@ impl MobileView {
     pub(crate) fn in_consist(&self) -> bool
         ensures { result ≡ in_consist self.now }
     {
-        self.consist % 128 != 0 && !is_short(self.consist % 128, self.own)
+        self.consist % 128 != 0 && self.own != Some(Address::Short(self.consist % 128))
     }
 }
 
+// A trait over the two kinds would name a target and a broadcast for each, which is all that their `role` says beside this.
 fn by_accessory(own: u16, all: u16, address: u16) -> Option<Role>
     ensures { result ≡ by_accessory own all address }
 {

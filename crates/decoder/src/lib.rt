@@ -5,6 +5,7 @@
 mod access;
 mod accessory;
 pub mod effect;
+pub mod heard;
 mod hearing;
 mod laws;
 mod mobile;
@@ -15,6 +16,7 @@ pub mod view;
 
 pub use crate::access::access_of;
 pub use crate::effect::{Access, Change, Effect};
+pub use crate::heard::Heard;
 pub use crate::hearing::own_address;
 pub use crate::laws::{examples_hold, rules_keep, variables_persist};
 pub use crate::records::{Basic, Extended, Mobile};

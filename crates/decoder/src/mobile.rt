@@ -1,86 +1,46 @@
 ghost use Rattle.std.specs.Prelude.{◌≡◌};
-ghost use Rattle.decoder.specs.Mobiles.{fully_acts, is_speed, mobile_acts, directed as directed_in, sped as sped_to, sped_short, mobile_changed, access_effect, mobile_effect, mobile_after, mobile_plan};
+ghost use Rattle.decoder.specs.Mobiles.{fully_acts, mobile_acts, directed as directed_in, sped as sped_to, sped_short, mobile_changed, mobile_effect, mobile_after, mobile_plan};
 
-use crate::access::{access_acts, access_of, result, waits_after};
-use crate::effect::{Access, Effect};
+use crate::access::{access_effect, access_of};
+use crate::effect::Effect;
+use crate::heard::Heard;
 use crate::records::Mobile;
-use crate::replies::reply_after;
 use crate::role::Role;
 use crate::view::MobileView;
 use packet::Instruction;
-use state::{MobileState, Scale, Speed, WaitingWrite, has_bit, with_bit};
+use state::{MobileState, Scale, Speed, has_bit, with_bit};
 
-/// Whether an instruction to the own address or to all acts.
-fn fully_acts(
-    state: &MobileState,
-    view: &MobileView,
-    role: Role,
-    packet: WaitingWrite,
-    instruction: Instruction,
-) -> bool
-    ensures { result ≡ fully_acts state.now view.now role packet instruction }
+/// The offset of the variables of mobile decoders.
+const OFFSET: u16 = 0;
+
+/// Whether a packet to the own address or to all acts.
+fn fully_acts(state: &MobileState, view: &MobileView, heard: Heard) -> bool
+    ensures { result ≡ fully_acts state.now view.now heard.role heard.packet heard.instruction }
 {
-    match instruction {
+    match heard.instruction {
         Instruction::NoOperation | Instruction::Output { .. } | Instruction::Aspect { .. } => false,
-        Instruction::Speed { .. } | Instruction::Speed126 { .. } => match role {
-            Role::Own => !view.in_consist(),
-            _ => true,
-        },
+        Instruction::Speed { .. } | Instruction::Speed126 { .. } => {
+            heard.role != Role::Own || !view.in_consist()
+        }
         Instruction::BinaryStateLong { number, .. } => number <= 2047,
-        Instruction::VerifyByte { .. } => access_acts(
-            0,
-            state.waiting,
-            packet,
-            view.value,
-            access_of(instruction),
-        ),
-        Instruction::WriteByte { .. } => access_acts(
-            0,
-            state.waiting,
-            packet,
-            view.value,
-            access_of(instruction),
-        ),
-        Instruction::VerifyBit { .. } => access_acts(
-            0,
-            state.waiting,
-            packet,
-            view.value,
-            access_of(instruction),
-        ),
-        Instruction::WriteBit { .. } => access_acts(
-            0,
-            state.waiting,
-            packet,
-            view.value,
-            access_of(instruction),
-        ),
+        Instruction::VerifyByte { .. }
+        | Instruction::WriteByte { .. }
+        | Instruction::VerifyBit { .. }
+        | Instruction::WriteBit { .. } => heard.accesses(OFFSET, state.waiting, view.value),
         _ => true,
     }
 }
 
-fn is_speed(instruction: Instruction) -> bool
-    ensures { result ≡ is_speed instruction }
+/// Whether a packet that is heard acts: by the consist address only speed does.
+fn acts(state: &MobileState, view: &MobileView, heard: Heard) -> bool
+    ensures { result ≡ mobile_acts state.now view.now heard.role heard.packet heard.instruction }
 {
-    match instruction {
-        Instruction::Speed { .. } | Instruction::Speed126 { .. } => true,
-        _ => false,
-    }
-}
-
-/// Whether an instruction that is heard acts: by the consist address only speed does.
-fn acts(
-    state: &MobileState,
-    view: &MobileView,
-    role: Role,
-    packet: WaitingWrite,
-    instruction: Instruction,
-) -> bool
-    ensures { result ≡ mobile_acts state.now view.now role packet instruction }
-{
-    match role {
-        Role::Consist => is_speed(instruction),
-        _ => fully_acts(state, view, role, packet, instruction),
+    match heard.role {
+        Role::Consist => matches!(
+            heard.instruction,
+            Instruction::Speed { .. } | Instruction::Speed126 { .. }
+        ),
+        _ => fully_acts(state, view, heard),
     }
 }
 
@@ -113,23 +73,23 @@ fn go_short(state: &mut MobileState, view: &MobileView, forward: bool, code: u8)
     }
 }
 
-/// What an instruction that acts makes of the volatile part.
-fn change(state: &mut MobileState, view: &MobileView, role: Role, instruction: Instruction)
-    ensures { state.new ≡ mobile_changed state.old view.now role instruction }
+/// What a packet that acts makes of the volatile part.
+fn change(state: &mut MobileState, view: &MobileView, heard: Heard)
+    ensures { state.new ≡ mobile_changed state.old view.now heard.role heard.instruction }
 {
-    match instruction {
+    match heard.instruction {
         Instruction::Reset | Instruction::HardReset => *state = MobileState::new(),
         Instruction::Speed { forward, code } => go_short(
             state,
             view,
-            directed(view, role, forward),
+            directed(view, heard.role, forward),
             code,
         ),
         Instruction::Speed126 { forward, code } => {
             go(
                 state,
                 Scale::OneTwentySix,
-                directed(view, role, forward),
+                directed(view, heard.role, forward),
                 code,
             );
         }
@@ -144,61 +104,42 @@ fn change(state: &mut MobileState, view: &MobileView, role: Role, instruction: I
     }
 }
 
-/// What a long form that acts does to its variable.
-pub(crate) fn access_effect(value: u8, access: Option<Access>) -> Effect
-    ensures { result ≡ access_effect value access }
-{
-    match access {
-        Some(access) if access.writes => Effect::Put {
-            cv: access.cv,
-            value: result(access.change, value),
-        },
-        _ => Effect::Nothing,
-    }
-}
-
 /// What an instruction that acts does to the variables.
-fn effect(view: &MobileView, instruction: Instruction) -> Effect
+fn effect(view: &MobileView, instruction: Instruction) -> Option<Effect>
     ensures { result ≡ mobile_effect view.now instruction }
 {
     match instruction {
-        Instruction::HardReset => Effect::HardReset,
-        Instruction::AdvancedAddressing { on } => Effect::Config(with_bit(view.config, 5, on)),
-        Instruction::Consist { reversed, address } => {
-            Effect::Consist(if reversed { 128 } else { 0 } + address % 128)
+        Instruction::HardReset => Some(Effect::HardReset),
+        Instruction::AdvancedAddressing { on } => {
+            Some(Effect::Config(with_bit(view.config, 5, on)))
         }
-        Instruction::AccelerationAdjustment { value } => Effect::Acceleration(value),
-        Instruction::DecelerationAdjustment { value } => Effect::Deceleration(value),
-        Instruction::WriteByte { .. } => access_effect(view.value, access_of(instruction)),
-        Instruction::WriteBit { .. } => access_effect(view.value, access_of(instruction)),
-        _ => Effect::Nothing,
+        Instruction::Consist { reversed, address } => {
+            Some(Effect::Consist(if reversed { 128 } else { 0 } + address % 128))
+        }
+        Instruction::AccelerationAdjustment { value } => Some(Effect::Acceleration(value)),
+        Instruction::DecelerationAdjustment { value } => Some(Effect::Deceleration(value)),
+        _ => access_effect(view.value, access_of(instruction)),
     }
 }
 
 impl Mobile {
-    /// Obeys an instruction that is heard in a role, and answers what becomes of the variables.
-    pub fn obey(
-        &mut self,
-        view: &MobileView,
-        role: Role,
-        packet: WaitingWrite,
-        instruction: Instruction,
-    ) -> Effect
-        ensures effect { result ≡ mobile_plan self.old.state view.now role packet instruction }
-        ensures after { self.new.state ≡ mobile_after self.old.state view.now role packet instruction }
+    /// Obeys a packet that it hears, and answers what becomes of the variables.
+    pub fn obey(&mut self, view: &MobileView, heard: Heard) -> Option<Effect>
+        ensures effect { result ≡ mobile_plan self.old.state view.now heard }
+        ensures after { self.new.state ≡ mobile_after self.old.state view.now heard }
     {
-        let acted = acts(&self.state, view, role, packet, instruction);
-        let waiting = waits_after(self.state.waiting, role, packet, instruction);
-        let reply = reply_after(view.config, view.value, role, acted, instruction);
+        let acted = acts(&self.state, view, heard);
+        let waiting = heard.waits_after(self.state.waiting);
+        let reply = heard.reply(view.config, view.value, acted);
         if acted {
-            change(&mut self.state, view, role, instruction);
+            change(&mut self.state, view, heard);
         }
         self.state.waiting = waiting;
         self.state.reply = reply;
         if acted {
-            effect(view, instruction)
+            effect(view, heard.instruction)
         } else {
-            Effect::Nothing
+            None
         }
     }
 }

@@ -1,4 +1,3 @@
 pub mod Bitwise
-pub mod Stepped
 pub mod Tables
-pub mod Pasted
+pub mod Lows

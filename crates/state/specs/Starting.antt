@@ -1,7 +1,6 @@
 -- The volatile parts as the power comes up.
 use Rattle.std.specs.Prelude.{true, false, replicate, None}
 use Rattle.state.specs.declared.speed.Speed.TheVariants.{Stop}
-use Rattle.state.specs.declared.volatile.Reply.TheVariants as reply
 use Rattle.state.specs.declared.volatile.MobileState.{MobileState}
 use Rattle.state.specs.declared.volatile.BasicState.{BasicState}
 use Rattle.state.specs.declared.volatile.ExtendedState.{ExtendedState}
@@ -15,11 +14,11 @@ mobile_start =
       functions = record { on = replicate 69 false };
       states = record { bits = replicate 256 0 };
       waiting = None;
-      reply = reply.None;
+      reply = None;
     }
 
 abbrev pub basic_start : BasicState
-basic_start = record { outputs = replicate 8 false; waiting = None; reply = reply.None }
+basic_start = record { outputs = replicate 8 false; waiting = None; reply = None }
 
 abbrev pub extended_start : ExtendedState
-extended_start = record { aspect = 0; waiting = None; reply = reply.None }
+extended_start = record { aspect = 0; waiting = None; reply = None }

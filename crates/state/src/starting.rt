@@ -4,7 +4,7 @@ ghost use Rattle.state.specs.Starting.{mobile_start, basic_start, extended_start
 use crate::functions::Functions;
 use crate::speed::Speed;
 use crate::states::BinaryStates;
-use crate::volatile::{BasicState, ExtendedState, MobileState, Reply};
+use crate::volatile::{BasicState, ExtendedState, MobileState};
 
 impl MobileState {
     /// As the power comes up.
@@ -17,7 +17,7 @@ impl MobileState {
             functions: Functions { on: [false; 69] },
             states: BinaryStates { bits: [0; 256] },
             waiting: None,
-            reply: Reply::None,
+            reply: None,
         }
     }
 }
@@ -30,7 +30,7 @@ impl BasicState {
         BasicState {
             outputs: [false; 8],
             waiting: None,
-            reply: Reply::None,
+            reply: None,
         }
     }
 }
@@ -43,7 +43,7 @@ impl ExtendedState {
         ExtendedState {
             aspect: 0,
             waiting: None,
-            reply: Reply::None,
+            reply: None,
         }
     }
 }

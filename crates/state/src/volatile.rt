@@ -6,7 +6,6 @@ use crate::waiting::WaitingWrite;
 /// What a decoder answered last.
 #[derive(Clone, Copy, PartialEq, Eq, Debug)]
 pub enum Reply {
-    None,
     Acknowledgment,
     /// The value of the variable that was verified.
     Value(u8),
@@ -20,15 +19,17 @@ pub struct MobileState {
     pub functions: Functions,
     pub states: BinaryStates,
     pub waiting: Option<WaitingWrite>,
-    pub reply: Reply,
+    pub reply: Option<Reply>,
 }
+
+// The states of accessory decoders are two types, since a field of one generic type could not say whether it holds outputs or an aspect.
 
 /// What a basic accessory decoder holds while it has power.
 #[derive(Clone, Copy)]
 pub struct BasicState {
     pub outputs: [bool; 8],
     pub waiting: Option<WaitingWrite>,
-    pub reply: Reply,
+    pub reply: Option<Reply>,
 }
 
 /// What an extended accessory decoder holds while it has power.
@@ -36,5 +37,5 @@ pub struct BasicState {
 pub struct ExtendedState {
     pub aspect: u8,
     pub waiting: Option<WaitingWrite>,
-    pub reply: Reply,
+    pub reply: Option<Reply>,
 }
