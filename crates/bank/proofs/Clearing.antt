@@ -1,38 +1,43 @@
 -- A window that is cleared variable by variable.
-use Rattle.std.proofs.Common.{◌≡◌, ℕ, ◌+◌, ◌-◌, ◌<◌, ◌≢◌, List, length, get_or, set, replicate, sym, refl, ap, ◌∙◌, ⊎_elim, arith, get_or-set_other, get_or-set_same}
+use Rattle.std.proofs.Common.{◌≡◌, ℕ, ◌+◌, ◌-◌, ◌<◌, ◌≤◌, ◌≢◌, get_or, set, replicate, sym, ap, subst, ◌∙◌, ⊎_elim, arith, get_or-set_other, get_or-set_same}
 use lib.ListN.{length-replicate, get_or-replicate}
 use Rattle.std.proofs.lemmas.List.{get_or_default, same_lists}
 use Rattle.std.proofs.lemmas.Bool.{cases_eq}
+use Rattle.memory.specs.declared.memory.Memory.{Ghosts}
 use Rattle.decoder.specs.Fitted.{blank}
-use Rattle.bank.specs.Windows.{window, Wrote}
+use Rattle.bank.specs.declared.window.Window.{Window}
+use Rattle.bank.specs.Opened.{variables, Became}
+use Rattle.bank.proofs.Windowed.{length-variables, became_none, became_holds, became_then}
 
--- the variables of the slot s with numbers below n are 0, and the other windows are as they were
-pub record Cleared (cells cells' : List ℕ) (s n : ℕ) : Type 0 where
-  pub size : length cells' ≡ length cells
-  pub zeros : (k : ℕ) → k + 1 < n → get_or (window cells' s) k 0 ≡ 0
-  pub there : (t : ℕ) → t ≢ s → window cells' t ≡ window cells t
+module _ {M : Type 0} {m : Ghosts M} where
+  -- the variables with numbers below n are 0, and nothing else is otherwise
+  pub record Cleared (old new : Window M m) (n : ℕ) : Type 0 where
+    pub only : Became old new (variables new)
+    pub zeros : (k : ℕ) → k + 1 < n → get_or (variables new) k 0 ≡ 0
 
-pub clear_none : {cells : List ℕ} {s : ℕ} → Cleared cells cells s 1
-clear_none = record { size = refl; zeros = λ k l. absurd (omega arith); there = λ t ne. refl }
+  pub clear_none : {w : Window M m} → Cleared w w 1
+  clear_none = record { only = became_none; zeros = λ k l. absurd (omega arith) }
 
-module _ {cells cells' : List ℕ} {s n : ℕ} (c : Cleared cells cells' s n) where
-  pub clear_more : {cells'' : List ℕ} → n - 1 < length (window cells' s) → Wrote cells' cells'' s (set (window cells' s) (n - 1) 0) → Cleared cells cells'' s (n + 1)
-  clear_more {cells''} l w = record {
-    size = w.size ∙ c.size;
-    zeros = λ k h. ap (λ l. get_or l k 0) w.here ∙ ⊎_elim same (other k h) (cases_eq k (n - 1));
-    there = λ t ne. w.there t ne ∙ c.there t ne;
-  }
-    where
-      same : {k : ℕ} → k ≡ n - 1 → get_or (set (window cells' s) (n - 1) 0) k 0 ≡ 0
-      same e = rw e (get_or-set_same (window cells' s) (n - 1) 0 0 l)
+  module _ {old new : Window M m} {n : ℕ} (c : Cleared old new n) where
+    pub clear_more : {more : Window M m} → 1 ≤ n → n ≤ 1024 → Became new more (set (variables new) (n - 1) 0) → Cleared old more (n + 1)
+    clear_more {more} least most b =
+        let v = set (variables new) (n - 1) 0 in
+        let e : variables more ≡ v = became_holds b in
+        record {
+          only = subst (λ w. Became old more w) (sym e) (became_then c.only (λ _. v) b);
+          zeros = λ k h. ap (λ w. get_or w k 0) e ∙ ⊎_elim same (other k h) (cases_eq k (n - 1));
+        }
+      where
+        same : {k : ℕ} → k ≡ n - 1 → get_or (set (variables new) (n - 1) 0) k 0 ≡ 0
+        same e = rw e (get_or-set_same (variables new) (n - 1) 0 0 (let l = length-variables new in omega arith))
 
-      other : (k : ℕ) → k + 1 < n + 1 → k ≢ n - 1 → get_or (set (window cells' s) (n - 1) 0) k 0 ≡ 0
-      other k h ne = get_or-set_other (window cells' s) (n - 1) k 0 0 ne ∙ c.zeros k (omega arith)
+        other : (k : ℕ) → k + 1 < n + 1 → k ≢ n - 1 → get_or (set (variables new) (n - 1) 0) k 0 ≡ 0
+        other k h ne = get_or-set_other (variables new) (n - 1) k 0 0 ne ∙ c.zeros k (omega arith)
 
-  pub clear_all : n ≡ 1025 → length (window cells' s) ≡ 1024 → Wrote cells cells' s blank
-  unfolding blank
-  clear_all e l = record {
-    size = c.size;
-    here = same_lists (window cells' s) (replicate 1024 0) (l ∙ sym (length-replicate {A = ℕ} 1024 0)) (λ k d h. get_or_default (window cells' s) k d 0 h ∙ c.zeros k (omega arith) ∙ sym (get_or-replicate 1024 k 0 d (omega arith)));
-    there = c.there;
-  }
+    pub clear_all : n ≡ 1025 → Became old new blank
+    unfolding blank
+    clear_all e =
+        let l = length-variables new in
+        subst (λ w. Became old new w)
+        (same_lists (variables new) (replicate 1024 0) (l ∙ sym (length-replicate {A = ℕ} 1024 0)) (λ k d h. get_or_default (variables new) k d 0 h ∙ c.zeros k (omega arith) ∙ sym (get_or-replicate 1024 k 0 d (omega arith))))
+        c.only

@@ -1,5 +1,8 @@
 -- How many numbers below a bound pass a test.
-use Rattle.std.proofs.Common.{◌≡◌, ℕ, zero, suc, ◌+◌, ◌<◌, ◌≤◌, Bool, true, false, cond, ◌≢◌, List, [], ◌∷◌, length, get_or, sym, refl, ap, ◌∙◌, ap₂, ⊎_elim, add-one, arith}
+use Rattle.std.proofs.Common.{◌≡◌, ℕ, zero, suc, ◌+◌, ◌<◌, ◌≤◌, Bool, true, false, cond, ◌≢◌, List, [], ◌∷◌, length, get_or, take, sym, refl, ap, ◌∙◌, subst, ap₂, ⊎_elim, add-one, arith}
+use Rattle.std.specs.Prelude.{count_by}
+use Rattle.std.proofs.lemmas.List.{take_all}
+use Rattle.std.proofs.lemmas.List.Sums.{count_by_more_yes, count_by_more_no}
 use mir.Val.{bool_byte}
 use Rattle.std.proofs.lemmas.Bool.{cases_eq, cases_order, cases_Bool}
 use Rattle.bank.specs.Kinds.{count_below}
@@ -54,3 +57,16 @@ pub passes_at : {X : Type 0} (p : X → Bool) (xs : List X) (k : ℕ) (x : X) �
 passes_at p [] k x l = absurd (omega arith)
 passes_at p (y ∷ ys) zero x l = refl
 passes_at p (y ∷ ys) (suc k) x l = passes_at p ys k x (omega arith)
+
+-- the numbers that pass, as the elements of a list at their places
+pub count_taken : {A : Type 0} (p : A → Bool) (xs : List A) (d : A) (s : ℕ) → s ≤ length xs → count_below (λ k. p (get_or xs k d)) s ≡ count_by p (take s xs)
+count_taken p xs d zero l = count_none _
+count_taken p xs d (suc s) l =
+    let before = count_taken p xs d s (omega arith) in
+    subst (λ n. count_below (λ k. p (get_or xs k d)) n ≡ count_by p (take n xs)) (add-one s) (⊎_elim
+    (λ h. count_hit _ s h ∙ ap (λ n. n + 1) before ∙ sym (count_by_more_yes p xs s d (omega arith) h))
+    (λ h. count_miss _ s h ∙ before ∙ sym (count_by_more_no p xs s d (omega arith) h))
+    (cases_Bool (p (get_or xs s d))))
+
+pub count_list : {A : Type 0} (p : A → Bool) (xs : List A) (d : A) → count_below (λ k. p (get_or xs k d)) (length xs) ≡ count_by p xs
+count_list p xs d = count_taken p xs d (length xs) (omega arith) ∙ ap (count_by p) (take_all (length xs) xs (omega arith))

@@ -1,13 +1,13 @@
 -- A bank in the middle of a delivery: the slots below i have had their turn.
-use Rattle.std.proofs.Common.{◌≡◌, ℕ, ◌+◌, ◌*◌, ◌/◌, ◌%◌, ◌<◌, ◌≤◌, Bool, true, false, cond, ◌&&◌, eqb, ◌≢◌, List, length, get_or, set, sym, refl, ap, ◌∙◌, subst, ap₂, ⊎_elim, arith, length-set, get_or-set_other, get_or-set_same}
-use Rattle.std.proofs.lemmas.Bool.{cases_eq, eq-eqb, ne_eqb}
-use Rattle.std.proofs.lemmas.List.{get_or_default}
+use Rattle.std.proofs.Common.{◌≡◌, ℕ, ◌+◌, ◌-◌, ◌*◌, ◌/◌, ◌%◌, ◌<◌, ◌≤◌, Bool, true, false, ◌&&◌, ◌≢◌, List, ◌++◌, length, get_or, set, take, drop, sym, refl, ap, ◌∙◌, subst, ap₂, ⊎_elim, arith, length-set, length-append, length-drop, length-take-le, get_or-take, get_or-drop, get_or-set_other, get_or-set_same}
+use Rattle.std.proofs.lemmas.Bool.{cases_eq}
+use Rattle.std.proofs.lemmas.List.{get_or_default, get_or_append_left, get_or-append_right}
 use Rattle.packet.specs.declared.target.Target.{Target}
 use Rattle.decoder.specs.Alone.{Own, Rules, own}
 use Rattle.bank.specs.Kinds.{count_below}
 use Rattle.bank.specs.Windows.{window, Wrote}
 use Rattle.bank.specs.Hearers.{is_heard}
-use Rattle.bank.specs.Banks.{own_at, Turned, Kept, ChangedAt, ChangedBelow, passes, hears_at}
+use Rattle.bank.specs.Banks.{own_at, Turned, Kept, ChangedBelow, passes, hears_at}
 use Rattle.bank.proofs.Windowed.{cell_of}
 use Rattle.bank.proofs.Counts.{count_hit, count_miss, count_less, count_apart, parted, passes_at}
 
@@ -81,49 +81,26 @@ module _ {X : Type 0} {h : ℕ → Bool} {f : ℕ → Own X → Own X} {bank : L
     pub before_turned : {past : List ℕ} → ((s : ℕ) → s < n → h s ≡ true → window cells s ≡ window past s) → Turned h n f bank past bank' cells'
     before_turned {past} kept = record { len = u.len; here = λ x s l hs. u.here x s l hs ∙ ap (λ w. f s (own (get_or bank (count_below h s) x) w)) (kept s l hs); beyond = u.beyond }
 
-    -- one thing after another
-    pub then_turned : {g : ℕ → Own X → Own X} {bank'' : List X} {cells'' : List ℕ} → Turned h n g bank' cells' bank'' cells'' → Turned h n (λ s o. g s (f s o)) bank cells bank'' cells''
-    then_turned {g} v = record {
-      len = v.len ∙ u.len;
-      here = λ x s l hs. v.here x s l hs ∙ ap (g s) (u.here x s l hs);
-      beyond = λ x j l. v.beyond x j l ∙ u.beyond x j l;
-    }
-
-    -- the same by another function
-    pub as_turned : (g : ℕ → Own X → Own X) → ((s : ℕ) (o : Own X) → s < n → h s ≡ true → f s o ≡ g s o) → Turned h n g bank cells bank' cells'
-    as_turned g same = record { len = u.len; here = λ x s l hs. u.here x s l hs ∙ same s _ l hs; beyond = u.beyond }
-
 -- the cells beyond the slots
 pub kept_beyond : {h : ℕ → Bool} {n : ℕ} {cells cells' : List ℕ} → Kept h n cells cells' → (k : ℕ) → 1024 * n ≤ k → get_or cells' k 0 ≡ get_or cells k 0
 kept_beyond {h} {n} {cells} {cells'} u k l =
     sym (cell_of cells' k) ∙ ap (λ w. get_or w (k % 1024) 0) (u.there (k / 1024) (λ m. absurd (omega arith))) ∙ cell_of cells k
 
+-- a change of each record in front
+pub front_changed : {X : Type 0} {f : X → X} {bank front : List X} {k : ℕ} → k ≤ length bank → ChangedBelow (length (take k bank)) f (take k bank) front → ChangedBelow k f bank (front ++ drop k bank)
+front_changed {f = f} {bank = bank} {front = front} {k = k} l c =
+    let e : length (take k bank) ≡ k = length-take-le k bank l in
+    let n : length front ≡ k = c.len ∙ e in
+    record {
+      len = length-append front (drop k bank) ∙ (let d = length-drop k bank in omega arith);
+      here = λ x j m. get_or_append_left front (drop k bank) x j (omega arith) ∙ c.here x j (omega arith) ∙ ap f (get_or-take k bank j x m);
+      beyond = λ x j m. get_or-append_right front (drop k bank) k j x n m ∙ get_or-drop k bank (j - k) x ∙ ap (λ i. get_or bank i x) (omega arith);
+    }
+
 -- a change of each record of the kind, at any cells
-pub first_turned : {X : Type 0} {f : X → X} {bank bank' : List X} (h : ℕ → Bool) (n : ℕ) → ChangedBelow (count_below h n) f bank bank' → (cells : List ℕ) → Turned h n (λ _ o. own (f o.rec) o.vars) bank cells bank' cells
-first_turned h n c cells = record {
+pub first_turned : {X : Type 0} {f : X → X} {bank bank' : List X} {k : ℕ} (h : ℕ → Bool) (n : ℕ) → k ≡ count_below h n → ChangedBelow k f bank bank' → (cells : List ℕ) → Turned h n (λ _ o. own (f o.rec) o.vars) bank cells bank' cells
+first_turned h n at c cells = record {
   len = c.len;
-  here = λ x s l hs. ap (λ y. own y (window cells s)) (c.here x (count_below h s) (count_less h s n l hs));
-  beyond = c.beyond;
+  here = λ x s l hs. ap (λ y. own y (window cells s)) (c.here x (count_below h s) (let m = count_less h s n l hs in omega arith));
+  beyond = λ x j l. c.beyond x j (omega arith);
 }
-
--- a change of one slot's record and window
-module _ {X : Type 0} {f : X → X} {bank bank' : List X} {cells cells' : List ℕ} (g : List ℕ → List ℕ) (h : ℕ → Bool) (n s : ℕ) where
-  pub one_turned : h s ≡ true → s < n → ChangedAt (count_below h s) f bank bank' → Wrote cells cells' s (g (window cells s)) → Turned h n (λ t o. cond (eqb t s) (own (f o.rec) (g o.vars)) o) bank cells bank' cells'
-  one_turned e l c wrote = record {
-    len = c.len;
-    here = λ x t _ ht. ⊎_elim (λ q. here x t q) (λ ne. there x t ht ne) (cases_eq t s);
-    beyond = λ x j k. let m = count_less h s n l e in c.there x j (λ q. omega arith);
-  }
-    where
-      act : ℕ → Own X → Own X
-      act t o = cond (eqb t s) (own (f o.rec) (g o.vars)) o
-
-      here : (x : X) (t : ℕ) → t ≡ s → own_at h x bank' cells' t ≡ act t (own_at h x bank cells t)
-      here x t q =
-          subst (λ t. own_at h x bank' cells' t ≡ act t (own_at h x bank cells t)) (sym q)
-          (ap₂ own (c.here x) wrote.here ∙ sym (ap (λ b. cond b (own (f (get_or bank (count_below h s) x)) (g (window cells s))) (own_at h x bank cells s)) (eq-eqb s s refl)))
-
-      there : (x : X) (t : ℕ) → h t ≡ true → t ≢ s → own_at h x bank' cells' t ≡ act t (own_at h x bank cells t)
-      there x t ht ne =
-          ap₂ own (c.there x (count_below h t) (count_apart h t s ne ht e)) (wrote.there t ne)
-          ∙ sym (ap (λ b. cond b (own (f (get_or bank (count_below h t) x)) (g (window cells t))) (own_at h x bank cells t)) (ne_eqb t s ne))

@@ -1,13 +1,16 @@
 -- One cell of a window, read and written: the only place where the layout of the cells counts.
-use Rattle.std.proofs.Common.{◌≡◌, ℕ, ◌+◌, ◌-◌, ◌*◌, ◌/◌, ◌%◌, ◌<◌, ◌≤◌, ◌≢◌, List, length, get_or, take, drop, set, refl, ap, ◌∙◌, ⊎_elim, arith, length-drop, length-set, length-take, get_or-drop, get_or-take, drop-set-lt}
+use Rattle.std.proofs.Common.{◌≡◌, ℕ, ◌+◌, ◌-◌, ◌*◌, ◌/◌, ◌%◌, ◌<◌, ◌≤◌, ◌≢◌, List, length, get_or, take, drop, set, refl, ap, subst, ◌∙◌, ⊎_elim, arith, length-drop, length-set, length-take, get_or-drop, get_or-take, drop-set-lt}
 use lib.Seq.{drop-set-add, take-set-lt, take-set-le}
 use Rattle.std.proofs.lemmas.Bool.{cases_order}
+use Rattle.memory.specs.declared.memory.Memory.{Ghosts}
+use Rattle.bank.specs.declared.window.Window.{Window}
 use Rattle.bank.specs.Windows.{window, Wrote}
+use Rattle.bank.specs.Opened.{variables, Became}
 
 module _ (cells : List ℕ) (s v : ℕ) (low : v < 1024) where
-  pub get_or-window : get_or (window cells s) v 0 ≡ get_or cells (1024 * s + v) 0
+  pub in_window : get_or (window cells s) v 0 ≡ get_or cells (1024 * s + v) 0
   unfolding window
-  get_or-window = get_or-take 1024 (drop (1024 * s) cells) v 0 low ∙ get_or-drop (1024 * s) cells v 0
+  in_window = get_or-take 1024 (drop (1024 * s) cells) v 0 low ∙ get_or-drop (1024 * s) cells v 0
 
   there : (b t : ℕ) → t ≢ s → window (set cells (1024 * s + v) b) t ≡ window cells t
   unfolding window
@@ -50,4 +53,25 @@ wrote_then f a b = record {
 
 -- a cell by its window
 pub cell_of : (cells : List ℕ) (k : ℕ) → get_or (window cells (k / 1024)) (k % 1024) 0 ≡ get_or cells k 0
-cell_of cells k = let e : 1024 * (k / 1024) + k % 1024 ≡ k = omega arith in get_or-window cells (k / 1024) (k % 1024) (omega arith) ∙ ap (λ k. get_or cells k 0) e
+cell_of cells k = let e : 1024 * (k / 1024) + k % 1024 ≡ k = omega arith in in_window cells (k / 1024) (k % 1024) (omega arith) ∙ ap (λ k. get_or cells k 0) e
+
+module _ {M : Type 0} {m : Ghosts M} where
+  pub became_none : {w : Window M m} → Became w w (variables w)
+  became_none = record { slot = refl; lender = refl; cells = wrote_none; outside = refl }
+
+  module _ {old new : Window M m} {w : List ℕ} (b : Became old new w) where
+    -- what the window holds then
+    pub became_holds : variables new ≡ w
+    became_holds = ap (λ s. window (m.cells new.memory.now) s) b.slot ∙ b.cells.here
+
+    -- one change after another, which sees what the first left
+    pub became_then : {more : Window M m} (f : List ℕ → List ℕ) → Became new more (f (variables new)) → Became old more (f w)
+    became_then {more} f c = record {
+      slot = c.slot ∙ b.slot;
+      lender = c.lender ∙ b.lender;
+      cells = wrote_then f b.cells (subst (λ s. Wrote (m.cells new.memory.now) (m.cells more.memory.now) s (f (window (m.cells new.memory.now) s))) b.slot c.cells);
+      outside = c.outside ∙ b.outside;
+    }
+
+  pub length-variables : (w : Window M m) → length (variables w) ≡ 1024
+  length-variables w = length-window (m.cells w.memory.now) w.slot w.held.room

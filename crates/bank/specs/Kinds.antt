@@ -1,5 +1,5 @@
 -- The kinds of decoders in the slots of a board, and the number that each slot has within its kind.
-use Rattle.std.specs.Prelude.{◌≡◌, ℕ, zero, suc, ◌+◌, ◌<◌, ◌≤◌, Bool, true, false, cond, List, length, Some, None, Option, slice_index_or}
+use Rattle.std.specs.Prelude.{◌≡◌, ℕ, zero, suc, ◌+◌, ◌<◌, ◌≤◌, Bool, true, false, cond, List, length, Some, None, Option, codes, slice_index_or}
 use Rattle.bank.specs.declared.kind.Kind.{Kind}
 use Rattle.bank.specs.declared.kind.Kind.TheVariants.{Mobile, Basic, Extended}
 
@@ -14,6 +14,12 @@ same_kind Basic Extended = false
 same_kind Extended Mobile = false
 same_kind Extended Basic = false
 same_kind Extended Extended = true
+
+-- the word for a kind, by its bytes
+abbrev pub kind_name : Kind → List ℕ
+kind_name Mobile = codes "mobile"
+kind_name Basic = codes "basic"
+kind_name Extended = codes "extended"
 
 -- whether the slot s is one of the kind
 unfoldable pub is_kind : List Kind → Kind → ℕ → Bool

@@ -2,3 +2,4 @@ pub mod Kinds
 pub mod Windows
 pub mod Hearers
 pub mod Banks
+pub mod Opened

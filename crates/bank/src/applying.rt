@@ -1,37 +1,38 @@
-ghost use Rattle.std.specs.Prelude.{◌≡◌};
+ghost use Rattle.std.specs.Prelude.{Some};
 ghost use Rattle.decoder.specs.Alone.{applied};
 ghost use Rattle.decoder.specs.declared.effect.Effect.TheVariants.{HardReset};
-ghost use Rattle.bank.specs.Windows.{window, HasWindow, Wrote};
+ghost use Rattle.bank.specs.Opened.{variables, Became};
 
-use crate::cells::put;
+use crate::window::Window;
 use decoder::Effect;
 use memory::Memory;
+use packet::CvNumber;
 
-/// Does to the variables what an effect says.
-pub(crate) fn apply<M: Memory>(effect: Effect, memory: &mut M, slot: usize)
-    requires { HasWindow slot (M.Memory.cells memory.old) }
-    ensures cells { Wrote (M.Memory.cells memory.old) (M.Memory.cells memory.new) slot (applied effect (window (M.Memory.cells memory.old) slot)) }
-    ensures outside { M.Memory.outside memory.new ≡ M.Memory.outside memory.old }
-{
-    match effect {
-        Effect::Nothing => {}
-        Effect::Put { cv, value } => put(memory, slot, cv.get(), value),
-        Effect::Consist(value) => put(memory, slot, 19, value),
-        Effect::Config(value) => put(memory, slot, 29, value),
-        Effect::Acceleration(value) => put(memory, slot, 23, value),
-        Effect::Deceleration(value) => put(memory, slot, 24, value),
-        Effect::HardReset => reset(memory, slot),
+impl<M: Memory> Window<'_, M> {
+    /// Does to the variables what an effect says.
+    pub(crate) fn apply(&mut self, effect: Option<Effect>)
+        ensures { Became self.old self.new (applied effect (variables self.old)) }
+    {
+        let Some(effect) = effect else {
+            return;
+        };
+        match effect {
+            Effect::Put { cv, value } => self.put(cv, value),
+            Effect::Consist(value) => self.put(CvNumber::CONSIST_ADDRESS, value),
+            Effect::Config(value) => self.put(CvNumber::CONFIGURATION, value),
+            Effect::Acceleration(value) => self.put(CvNumber::ACCELERATION_ADJUSTMENT, value),
+            Effect::Deceleration(value) => self.put(CvNumber::DECELERATION_ADJUSTMENT, value),
+            Effect::HardReset => self.reset(),
+        }
     }
-}
 
-/// Gives variables 19, 29, 31 and 32 their defaults.
-fn reset<M: Memory>(memory: &mut M, slot: usize)
-    requires { HasWindow slot (M.Memory.cells memory.old) }
-    ensures cells { Wrote (M.Memory.cells memory.old) (M.Memory.cells memory.new) slot (applied HardReset (window (M.Memory.cells memory.old) slot)) }
-    ensures outside { M.Memory.outside memory.new ≡ M.Memory.outside memory.old }
-{
-    put(memory, slot, 19, 0);
-    put(memory, slot, 29, 2);
-    put(memory, slot, 31, 16);
-    put(memory, slot, 32, 0);
+    /// Gives variables 19, 29, 31 and 32 their defaults.
+    fn reset(&mut self)
+        ensures { Became self.old self.new (applied (Some HardReset) (variables self.old)) }
+    {
+        self.put(CvNumber::CONSIST_ADDRESS, 0);
+        self.put(CvNumber::CONFIGURATION, 2);
+        self.put(CvNumber::INDEX_HIGH, 16);
+        self.put(CvNumber::INDEX_LOW, 0);
+    }
 }

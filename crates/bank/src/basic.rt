@@ -1,47 +1,38 @@
+ghost use Rattle.std.specs.Prelude.{refl};
+ghost use Rattle.std.proofs.Common.{arith};
 ghost use Rattle.decoder.specs.Alone.{basic_rules};
 
-use crate::applying::apply;
 use crate::listener::Listener;
 use crate::variables::Variables;
-use crate::views::accessory_view;
-use decoder::{Basic, access_of};
-use memory::Memory;
-use packet::{Instruction, Target};
-use state::{BasicState, WaitingWrite};
+use decoder::{AccessoryView, Basic, Effect, Heard, Role};
+use packet::Target;
 
 impl Listener for Basic {
+    type View = AccessoryView;
+
     ghost rules = { basic_rules };
 
-    fn hear<M: Memory>(
-        &mut self,
-        memory: &mut M,
-        slot: usize,
-        packet: &[u8],
-        target: Target,
-        instruction: Instruction,
-    ) -> bool {
-        let view = accessory_view(memory, slot, access_of(instruction));
-        match self.role(target) {
-            Some(role) => {
-                let effect = self.obey(&view, role, WaitingWrite::new(packet), instruction);
-                apply(effect, memory, slot);
-                true
-            }
-            None => false,
-        }
+    fn hears(&self, _view: &AccessoryView, target: Target) -> Option<Role> {
+        self.role(target)
+    }
+
+    fn obeys(&mut self, view: &AccessoryView, heard: Heard) -> Option<Effect> {
+        self.obey(view, heard)
     }
 
     fn power_up(&mut self) {
-        self.state = BasicState::new();
+        *self = Basic::new(self.address);
     }
 }
 
 impl Variables for Basic {
+    ghost OFFSET = { 512 };
+
     const OFFSET: u16 = 512;
 
-    fn base() -> u16 {
-        Self::OFFSET
-    }
+    ghost offset_is = { refl };
+
+    ghost offset_most = { omega arith };
 
     fn end_wait(&mut self) {
         self.state.waiting = None;

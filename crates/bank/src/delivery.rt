@@ -6,35 +6,36 @@ ghost use Rattle.bank.specs.Kinds.{count_below, count_of, is_kind};
 use crate::counting::is_enough;
 use crate::kind::Kind;
 use crate::listener::Listener;
-use crate::refusing::lent_too_short;
-use fault::Fault;
+use crate::window::Window;
+use fault::{Fault, Refusal};
 use memory::Memory;
-use packet::{Instruction, Target};
+use packet::Packet;
 
 /// Every decoder of the kind hears the packet, in the order of the slots. Answers how many did.
 ///
 /// An inner call of the board. Refused, and nothing changes, where the bank has fewer records than
 /// the slots have decoders of the kind, or the memory has fewer windows than there are slots.
+// `kind` is no constant of `T`, and no field beside `kinds`: a bank of any type may stand for any kind, and a
+// board asks for each kind in turn of one list.
 pub fn deliver<T: Listener, M: Memory>(
     bank: &mut [T],
     kind: Kind,
     kinds: &[Kind],
     memory: &mut M,
     packet: &[u8],
-    target: Target,
-    instruction: Instruction,
+    said: Packet,
 ) -> Result<usize, Fault>
-    ensures answer { result ≡ unless_short (is_enough kinds.now kind bank.old (M.Memory.cells memory.old)) (count_below (hears_at T.Listener.rules target (is_kind kinds.now kind) bank.old (M.Memory.cells memory.old)) (length kinds.now)) }
-    ensures turned { is_enough kinds.now kind bank.old (M.Memory.cells memory.old) ≡ true → Turned (is_kind kinds.now kind) (length kinds.now) (λ _. after_hearing T.Listener.rules packet.now target instruction) bank.old (M.Memory.cells memory.old) bank.new (M.Memory.cells memory.new) }
+    ensures answer { result ≡ unless_short (is_enough kinds.now kind bank.old (M.Memory.cells memory.old)) (count_below (hears_at T.Listener.rules said.target (is_kind kinds.now kind) bank.old (M.Memory.cells memory.old)) (length kinds.now)) }
+    ensures turned { is_enough kinds.now kind bank.old (M.Memory.cells memory.old) ≡ true → Turned (is_kind kinds.now kind) (length kinds.now) (λ _. after_hearing T.Listener.rules packet.now said.target said.instruction) bank.old (M.Memory.cells memory.old) bank.new (M.Memory.cells memory.new) }
     ensures kept { is_enough kinds.now kind bank.old (M.Memory.cells memory.old) ≡ true → Kept (is_kind kinds.now kind) (length kinds.now) (M.Memory.cells memory.old) (M.Memory.cells memory.new) }
     ensures refused { is_enough kinds.now kind bank.old (M.Memory.cells memory.old) ≡ false → (bank.new ≡ bank.old) × (M.Memory.cells memory.new ≡ M.Memory.cells memory.old) }
     ensures beyond { (k : ℕ) → 1024 * length kinds.now ≤ k → slice_index (M.Memory.cells memory.new) k ≡ slice_index (M.Memory.cells memory.old) k }
     ensures outside { M.Memory.outside memory.new ≡ M.Memory.outside memory.old }
 {
     if !is_enough(bank, kind, kinds, memory) {
-        return Err(lent_too_short());
+        return Err(Refusal::LentTooShort.into());
     }
-    Ok(deliver_all(bank, kind, kinds, memory, packet, target, instruction))
+    Ok(deliver_all(bank, kind, kinds, memory, packet, said))
 }
 
 fn deliver_all<T: Listener, M: Memory>(
@@ -43,24 +44,25 @@ fn deliver_all<T: Listener, M: Memory>(
     kinds: &[Kind],
     memory: &mut M,
     packet: &[u8],
-    target: Target,
-    instruction: Instruction,
+    said: Packet,
 ) -> usize
     requires records { count_of kinds.now kind ≤ length bank.old }
     requires windows { 1024 * length kinds.now ≤ length (M.Memory.cells memory.old) }
-    requires small { length (M.Memory.cells memory.old) < 2 ^ 64 }
-    ensures answer { result ≡ count_below (hears_at T.Listener.rules target (is_kind kinds.now kind) bank.old (M.Memory.cells memory.old)) (length kinds.now) }
-    ensures turned { Turned (is_kind kinds.now kind) (length kinds.now) (λ _. after_hearing T.Listener.rules packet.now target instruction) bank.old (M.Memory.cells memory.old) bank.new (M.Memory.cells memory.new) }
+    ensures answer { result ≡ count_below (hears_at T.Listener.rules said.target (is_kind kinds.now kind) bank.old (M.Memory.cells memory.old)) (length kinds.now) }
+    ensures turned { Turned (is_kind kinds.now kind) (length kinds.now) (λ _. after_hearing T.Listener.rules packet.now said.target said.instruction) bank.old (M.Memory.cells memory.old) bank.new (M.Memory.cells memory.new) }
     ensures kept { Kept (is_kind kinds.now kind) (length kinds.now) (M.Memory.cells memory.old) (M.Memory.cells memory.new) }
     ensures outside { M.Memory.outside memory.new ≡ M.Memory.outside memory.old }
 {
+    // Tried: a chain that filters the slots and numbers them, or that zips them with `bank.iter_mut()`. The check
+    // generates no proof of a `for` over it: antt refuses the module of the loop's iterator.
     let mut next = 0;
     let mut heard = 0;
     for (slot, found) in kinds.iter().enumerate() {
-        if !kind.is(*found) {
+        if *found != kind {
             continue;
         }
-        let hears = bank[next].hear(memory, slot, packet, target, instruction);
+        let mut window = Window::new(memory, slot);
+        let hears = bank[next].hear(&mut window, packet, said);
         heard += usize::from(hears);
         next += 1;
     }

@@ -1,14 +1,14 @@
 ghost use Rattle.std.specs.Prelude.{◌≡◌, true, false};
 ghost use Rattle.decoder.specs.Fitted.{blank, mobile_defaults, mobile_variables};
 ghost use Rattle.bank.specs.Banks.{unless_few};
-ghost use Rattle.bank.specs.Windows.{HasWindow, has_window, Wrote};
+ghost use Rattle.bank.specs.Opened.{Became};
+ghost use Rattle.bank.specs.Windows.{has_window, Wrote};
 
-use crate::cells::put;
-use crate::refusing::too_few_cells;
-use crate::setting::has_window;
+use crate::window::{Window, has_window};
 use decoder::Address;
-use fault::Fault;
+use fault::{Fault, Refusal};
 use memory::Memory;
+use packet::CvNumber;
 
 /// Gives a new mobile decoder its variables, all of them: the defaults, and its address.
 ///
@@ -25,9 +25,9 @@ pub fn fit_mobile_variables<M: Memory>(
     ensures outside { M.Memory.outside memory.new ≡ M.Memory.outside memory.old }
 {
     if !has_window(memory, slot) {
-        return Err(too_few_cells());
+        return Err(Refusal::TooFewCells.into());
     }
-    put_mobile(memory, slot, address);
+    Window::new(memory, slot).put_mobile(address);
     Ok(())
 }
 
@@ -42,51 +42,51 @@ pub fn fit_accessory_variables<M: Memory>(memory: &mut M, slot: usize) -> Result
     ensures outside { M.Memory.outside memory.new ≡ M.Memory.outside memory.old }
 {
     if !has_window(memory, slot) {
-        return Err(too_few_cells());
+        return Err(Refusal::TooFewCells.into());
     }
-    clear(memory, slot);
+    Window::new(memory, slot).clear();
     Ok(())
 }
 
-/// Puts the defaults of a mobile decoder, and its address over them.
-fn put_mobile<M: Memory>(memory: &mut M, slot: usize, address: Address)
-    requires { HasWindow slot (M.Memory.cells memory.old) }
-    ensures cells { Wrote (M.Memory.cells memory.old) (M.Memory.cells memory.new) slot (mobile_variables address) }
-    ensures outside { M.Memory.outside memory.new ≡ M.Memory.outside memory.old }
-{
-    put_defaults(memory, slot);
-    match address {
-        Address::Short(address) => put(memory, slot, 1, address),
-        Address::Long(address) => {
-            // `% 256` takes nothing away from an address that the board fits: none is above 10239.
-            put(memory, slot, 17, ((192 + address / 256) % 256) as u8);
-            put(memory, slot, 18, (address % 256) as u8);
-            // Bit 5 says that the long address counts.
-            put(memory, slot, 29, 34);
+impl<M: Memory> Window<'_, M> {
+    /// Puts the defaults of a mobile decoder, and its address over them.
+    #[tactic(auto, unfolding(decoder::specs::Fitted::mobile_variables))]
+    fn put_mobile(&mut self, address: Address)
+        ensures { Became self.old self.new (mobile_variables address) }
+    {
+        self.put_defaults();
+        match address {
+            Address::Short(address) => self.put(CvNumber::SHORT_ADDRESS, address),
+            Address::Long(address) => {
+                // `% 256` takes nothing away from an address that the board fits: none is above 10239.
+                let high = ((192 + address / 256) % 256) as u8;
+                self.put(CvNumber::LONG_ADDRESS_HIGH, high);
+                self.put(CvNumber::LONG_ADDRESS_LOW, (address % 256) as u8);
+                // Bit 5 says that the long address counts.
+                self.put(CvNumber::CONFIGURATION, 34);
+            }
         }
     }
-}
 
-/// Puts the defaults of a mobile decoder, and 0 into every other variable.
-fn put_defaults<M: Memory>(memory: &mut M, slot: usize)
-    requires { HasWindow slot (M.Memory.cells memory.old) }
-    ensures cells { Wrote (M.Memory.cells memory.old) (M.Memory.cells memory.new) slot mobile_defaults }
-    ensures outside { M.Memory.outside memory.new ≡ M.Memory.outside memory.old }
-{
-    clear(memory, slot);
-    put(memory, slot, 1, 3);
-    put(memory, slot, 17, 192);
-    put(memory, slot, 29, 2);
-    put(memory, slot, 31, 16);
-}
+    /// Puts the defaults of a mobile decoder, and 0 into every other variable.
+    #[tactic(auto, unfolding(decoder::specs::Fitted::mobile_defaults))]
+    fn put_defaults(&mut self)
+        ensures { Became self.old self.new mobile_defaults }
+    {
+        self.clear();
+        self.put(CvNumber::SHORT_ADDRESS, 3);
+        self.put(CvNumber::LONG_ADDRESS_HIGH, 192);
+        self.put(CvNumber::CONFIGURATION, 2);
+        self.put(CvNumber::INDEX_HIGH, 16);
+    }
 
-/// Puts 0 into every variable, whatever the window held before.
-fn clear<M: Memory>(memory: &mut M, slot: usize)
-    requires { HasWindow slot (M.Memory.cells memory.old) }
-    ensures cells { Wrote (M.Memory.cells memory.old) (M.Memory.cells memory.new) slot blank }
-    ensures outside { M.Memory.outside memory.new ≡ M.Memory.outside memory.old }
-{
-    for number in 1..=1024 {
-        put(memory, slot, number, 0);
+    /// Puts 0 into every variable, whatever the window held before.
+    fn clear(&mut self)
+        ensures { Became self.old self.new blank }
+    {
+        for number in 1..=1024 {
+            let cv = CvNumber::new(number).unwrap();
+            self.put(cv, 0);
+        }
     }
 }

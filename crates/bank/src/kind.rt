@@ -1,23 +1,26 @@
-ghost use Rattle.std.specs.Prelude.{◌≡◌};
-ghost use Rattle.bank.specs.Kinds.{same_kind};
+use std::fmt;
 
 /// A kind of decoders. Those of one kind have a bank of their own.
-#[derive(Clone, Copy)]
+#[derive(Clone, Copy, PartialEq, Eq, Debug, Default)]
 pub enum Kind {
+    /// Also what the spare places of a list of kinds hold.
+    #[default]
     Mobile,
     Basic,
     Extended,
 }
 
-impl Kind {
-    pub(crate) fn is(self, other: Kind) -> bool
-        ensures { result ≡ same_kind self other }
-    {
-        match (self, other) {
-            (Kind::Mobile, Kind::Mobile) => true,
-            (Kind::Basic, Kind::Basic) => true,
-            (Kind::Extended, Kind::Extended) => true,
-            _ => false,
-        }
+impl fmt::Display for Kind {
+    ghost use Rattle.std.specs.Prelude.{Some};
+    ghost use Rattle.bank.specs.Kinds.{kind_name};
+
+    ghost output = { λ kind. Some (kind_name kind) };
+
+    fn fmt<W: fmt::Write>(&self, f: &mut fmt::Formatter<W>) -> fmt::Result {
+        f.write_str(match self {
+            Kind::Mobile => "mobile",
+            Kind::Basic => "basic",
+            Kind::Extended => "extended",
+        })
     }
 }

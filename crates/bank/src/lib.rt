@@ -6,7 +6,6 @@
 
 mod applying;
 mod basic;
-mod cells;
 mod counting;
 mod delivery;
 mod extended;
@@ -15,11 +14,11 @@ pub mod kind;
 pub mod listener;
 mod mobile;
 mod powering;
-mod refusing;
 mod setting;
 mod slots;
 pub mod variables;
 mod views;
+pub mod window;
 
 pub use crate::counting::{count_of, is_enough};
 pub use crate::delivery::deliver;
@@ -30,3 +29,5 @@ pub use crate::powering::power_up;
 pub use crate::setting::{set_variable, variable};
 pub use crate::slots::slot_of;
 pub use crate::variables::{Variables, is_read_only, reply_variable};
+pub use crate::views::View;
+pub use crate::window::Window;

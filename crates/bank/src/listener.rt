@@ -1,34 +1,57 @@
-ghost use Rattle.std.specs.Prelude.{◌≡◌};
-ghost use Rattle.decoder.specs.Alone.{Rules, own};
+ghost use Rattle.std.specs.Prelude.{◌≡◌, ℕ, List, Option};
+ghost use Rattle.state.specs.Packing.{packed};
+ghost use Rattle.decoder.specs.Accesses.{access_of};
+ghost use Rattle.decoder.specs.Alone.{Rules, own, applied};
+ghost use Rattle.decoder.specs.declared.effect.Access.{Access};
 ghost use Rattle.bank.specs.Hearers.{is_heard, after_hearing};
-ghost use Rattle.bank.specs.Windows.{window, HasWindow, Wrote};
+ghost use Rattle.bank.specs.Opened.{variables, Became};
 
+use crate::views::View;
+use crate::window::Window;
+use decoder::{Effect, Heard, Role, access_of};
 use memory::Memory;
-use packet::{Instruction, Target};
+use packet::{Packet, Target};
+use state::WaitingWrite;
 
 /// A decoder of any kind, at the variables of its slot.
+// Basic and extended decoders have an impl each: one for both would need a trait of what each hears and obeys,
+// which is this one.
 pub trait Listener: Sized {
+    /// What decides among its variables.
+    type View: View;
+
     // What decoders of this kind do.
     ghost rules: { Rules Self };
 
-    /// A packet comes: the decoder obeys it if it hears it, and answers whether it does.
-    ///
-    /// An inner call of the board, which sees to it that the memory holds the slot's window.
-    fn hear<M: Memory>(
-        &mut self,
-        memory: &mut M,
-        slot: usize,
-        packet: &[u8],
-        target: Target,
-        instruction: Instruction,
-    ) -> bool
-        requires { HasWindow slot (M.Memory.cells memory.old) }
-        ensures heard { result ≡ is_heard rules target (own self.old (window (M.Memory.cells memory.old) slot)) }
-        ensures rec { self.new ≡ (after_hearing rules packet.now target instruction (own self.old (window (M.Memory.cells memory.old) slot))).rec }
-        ensures cells { Wrote (M.Memory.cells memory.old) (M.Memory.cells memory.new) slot (after_hearing rules packet.now target instruction (own self.old (window (M.Memory.cells memory.old) slot))).vars }
-        ensures outside { M.Memory.outside memory.new ≡ M.Memory.outside memory.old };
+    /// By which address a packet to the target is heard, if it is heard.
+    fn hears(&self, view: &Self::View, target: Target) -> Option<Role>
+        ensures { (vars : List ℕ) (access : Option Access) → view.now ≡ Self.View.seen vars access → result ≡ rules.hears (own self.now vars) target };
+
+    /// Obeys an instruction that is heard in a role, and answers what becomes of the variables.
+    fn obeys(&mut self, view: &Self::View, heard: Heard) -> Option<Effect>
+        ensures { (vars packet : List ℕ) → view.now ≡ Self.View.seen vars (access_of heard.instruction) → heard.packet ≡ packed packet → rules.obeys (own self.old vars) heard.role packet heard.instruction ≡ own self.new (applied result vars) };
 
     /// The power comes up.
     fn power_up(&mut self)
         ensures { self.new ≡ rules.starts self.old };
+
+    /// A packet comes: the decoder obeys it if it hears it, and answers whether it does.
+    fn hear<M: Memory>(&mut self, window: &mut Window<'_, M>, packet: &[u8], said: Packet) -> bool
+        ensures heard { result ≡ is_heard rules said.target (own self.old (variables window.old)) }
+        ensures rec { self.new ≡ (after_hearing rules packet.now said.target said.instruction (own self.old (variables window.old))).rec }
+        ensures vars { Became window.old window.new (after_hearing rules packet.now said.target said.instruction (own self.old (variables window.old))).vars }
+    {
+        let view = Self::View::read(window, access_of(said.instruction));
+        let Some(role) = self.hears(&view, said.target) else {
+            return false;
+        };
+        let heard = Heard {
+            role,
+            packet: WaitingWrite::new(packet),
+            instruction: said.instruction,
+        };
+        let effect = self.obeys(&view, heard);
+        window.apply(effect);
+        true
+    }
 }

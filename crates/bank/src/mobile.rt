@@ -1,47 +1,38 @@
+ghost use Rattle.std.specs.Prelude.{refl};
+ghost use Rattle.std.proofs.Common.{arith};
 ghost use Rattle.decoder.specs.Alone.{mobile_rules};
 
-use crate::applying::apply;
 use crate::listener::Listener;
 use crate::variables::Variables;
-use crate::views::mobile_view;
-use decoder::{Mobile, access_of};
-use memory::Memory;
-use packet::{Instruction, Target};
-use state::{MobileState, WaitingWrite};
+use decoder::{Effect, Heard, Mobile, MobileView, Role};
+use packet::Target;
 
 impl Listener for Mobile {
+    type View = MobileView;
+
     ghost rules = { mobile_rules };
 
-    fn hear<M: Memory>(
-        &mut self,
-        memory: &mut M,
-        slot: usize,
-        packet: &[u8],
-        target: Target,
-        instruction: Instruction,
-    ) -> bool {
-        let view = mobile_view(memory, slot, access_of(instruction));
-        match view.role(target) {
-            Some(role) => {
-                let effect = self.obey(&view, role, WaitingWrite::new(packet), instruction);
-                apply(effect, memory, slot);
-                true
-            }
-            None => false,
-        }
+    fn hears(&self, view: &MobileView, target: Target) -> Option<Role> {
+        view.role(target)
+    }
+
+    fn obeys(&mut self, view: &MobileView, heard: Heard) -> Option<Effect> {
+        self.obey(view, heard)
     }
 
     fn power_up(&mut self) {
-        self.state = MobileState::new();
+        *self = Mobile::new();
     }
 }
 
 impl Variables for Mobile {
+    ghost OFFSET = { 0 };
+
     const OFFSET: u16 = 0;
 
-    fn base() -> u16 {
-        Self::OFFSET
-    }
+    ghost offset_is = { refl };
+
+    ghost offset_most = { omega arith };
 
     fn end_wait(&mut self) {
         self.state.waiting = None;

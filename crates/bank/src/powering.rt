@@ -6,8 +6,7 @@ ghost use Rattle.bank.specs.Kinds.{is_kind};
 use crate::counting::count_of;
 use crate::kind::Kind;
 use crate::listener::Listener;
-use crate::refusing::lent_too_short;
-use fault::Fault;
+use fault::{Fault, Refusal};
 
 /// The power comes up for every decoder of the kind; their variables stay.
 ///
@@ -20,18 +19,17 @@ pub fn power_up<T: Listener>(bank: &mut [T], kind: Kind, kinds: &[Kind]) -> Resu
 {
     let count = count_of(kind, kinds);
     if count > bank.len() {
-        return Err(lent_too_short());
+        return Err(Refusal::LentTooShort.into());
     }
-    power_up_first(bank, count);
+    power_up_each(&mut bank[..count]);
     Ok(())
 }
 
-/// The power comes up for the first records.
-fn power_up_first<T: Listener>(bank: &mut [T], count: usize)
-    requires { count ≤ length bank.old }
-    ensures { ChangedBelow count T.Listener.rules.starts bank.old bank.new }
+/// The power comes up for each record.
+fn power_up_each<T: Listener>(bank: &mut [T])
+    ensures { ChangedBelow (length bank.old) T.Listener.rules.starts bank.old bank.new }
 {
-    for number in 0..count {
-        bank[number].power_up();
+    for record in bank.iter_mut() {
+        record.power_up();
     }
 }

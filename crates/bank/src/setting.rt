@@ -1,22 +1,13 @@
-ghost use Rattle.std.specs.Prelude.{◌≡◌, ◌-◌, ◌^◌, ◌<◌, true, false, length, slice_set};
+ghost use Rattle.std.specs.Prelude.{◌≡◌, ◌-◌, true, false, slice_set};
 ghost use Rattle.decoder.specs.Alone.{variable as variable_of};
 ghost use Rattle.bank.specs.Banks.{ChangedAt, is_there, unless_short};
 ghost use Rattle.bank.specs.Windows.{window, has_window, Wrote};
 
-use crate::cells::{get, put};
-use crate::refusing::lent_too_short;
 use crate::variables::Variables;
-use fault::Fault;
+use crate::window::{Window, has_window};
+use fault::{Fault, Refusal};
 use memory::Memory;
 use packet::CvNumber;
-
-/// Whether the memory holds the window of the slot.
-pub(crate) fn has_window<M: Memory>(memory: &M, slot: usize) -> bool
-    ensures answer { result ≡ has_window slot (M.Memory.cells memory.now) }
-    ensures small { length (M.Memory.cells memory.now) < 2 ^ 64 }
-{
-    slot < memory.count() / 1024
-}
 
 /// Sets one variable of the decoder of a number at its slot, and no write waits there any more.
 ///
@@ -36,14 +27,11 @@ pub fn set_variable<T: Variables, M: Memory>(
     ensures refused { is_there number slot bank.old (M.Memory.cells memory.old) ≡ false → (bank.new ≡ bank.old) × (M.Memory.cells memory.new ≡ M.Memory.cells memory.old) }
     ensures outside { M.Memory.outside memory.new ≡ M.Memory.outside memory.old }
 {
-    if number >= bank.len() {
-        return Err(lent_too_short());
-    }
-    if !has_window(memory, slot) {
-        return Err(lent_too_short());
+    if number >= bank.len() || !has_window(memory, slot) {
+        return Err(Refusal::LentTooShort.into());
     }
     bank[number].end_wait();
-    put(memory, slot, cv.get(), value);
+    Window::new(memory, slot).put(cv, value);
     Ok(())
 }
 
@@ -56,7 +44,7 @@ pub fn variable<M: Memory>(memory: &mut M, slot: usize, cv: CvNumber) -> Result<
     ensures outside { M.Memory.outside memory.new ≡ M.Memory.outside memory.old }
 {
     if !has_window(memory, slot) {
-        return Err(lent_too_short());
+        return Err(Refusal::LentTooShort.into());
     }
-    Ok(get(memory, slot, cv.get()))
+    Ok(Window::new(memory, slot).get(cv))
 }

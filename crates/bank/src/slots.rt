@@ -7,15 +7,10 @@ use crate::kind::Kind;
 pub fn slot_of(kind: Kind, number: usize, kinds: &[Kind]) -> Option<usize>
     ensures { SlotOf (is_kind kinds.now kind) (length kinds.now) number result }
 {
-    let mut next = 0;
-    for (slot, found) in kinds.iter().enumerate() {
-        if !kind.is(*found) {
-            continue;
-        }
-        if next == number {
-            return Some(slot);
-        }
-        next += 1;
-    }
-    None
+    kinds
+        .iter()
+        .enumerate()
+        .filter(|(_, found)| **found == kind)
+        .map(|(slot, _)| slot)
+        .nth(number)
 }

@@ -1,33 +1,36 @@
-ghost use Rattle.std.specs.Prelude.{◌≡◌, ◌+◌, ◌≤◌};
+ghost use Rattle.std.specs.Prelude.{◌≡◌, ℕ, ◌+◌, ◌≤◌};
 ghost use Rattle.decoder.specs.Accesses.{barred};
 
 use crate::listener::Listener;
 
 /// A decoder of any kind, by where its own variables begin.
 pub trait Variables: Listener {
+    ghost OFFSET: { ℕ };
+
     /// How many variables stand before the kind's own.
     const OFFSET: u16;
-
-    /// The same, for code over any kind.
-    fn base() -> u16
-        ensures answer { result ≡ Self.Listener.rules.offset }
-        ensures most { result ≤ 512 };
 
     /// No write waits any more.
     fn end_wait(&mut self)
         ensures { self.new ≡ Self.Listener.rules.unwaits self.old };
+
+    // The offset is that of the kind's rules.
+    ghost offset_is: { OFFSET ≡ Self.Listener.rules.offset };
+
+    // So the last of the kind's own variables have numbers too.
+    ghost offset_most: { OFFSET ≤ 512 };
 }
 
 /// The variable whose bit 3 enables replies.
 pub fn reply_variable<T: Variables>() -> u16
     ensures { result ≡ T.Listener.rules.offset + 29 }
 {
-    T::base() + 29
+    T::OFFSET + 29
 }
 
 /// Whether packets never write the variable of that number.
 pub fn is_read_only<T: Variables>(number: u16) -> bool
     ensures { result ≡ barred T.Listener.rules.offset number }
 {
-    number == T::base() + 7 || number == T::base() + 8
+    number == T::OFFSET + 7 || number == T::OFFSET + 8
 }

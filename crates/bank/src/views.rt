@@ -1,60 +1,63 @@
-ghost use Rattle.std.specs.Prelude.{◌≡◌};
+ghost use Rattle.std.specs.Prelude.{◌≡◌, List, ℕ, Option};
+ghost use Rattle.decoder.specs.declared.effect.Access.{Access};
 ghost use Rattle.decoder.specs.Alone.{named as named_in, mobile_view, accessory_view};
-ghost use Rattle.bank.specs.Windows.{window, HasWindow};
+ghost use Rattle.bank.specs.Opened.{variables, Unchanged};
 
-use crate::cells::get;
+use crate::window::Window;
 use decoder::{Access, AccessoryView, MobileView, own_address};
 use memory::Memory;
+use packet::CvNumber;
 
-fn named<M: Memory>(memory: &mut M, slot: usize, access: Option<Access>) -> u8
-    requires { HasWindow slot (M.Memory.cells memory.old) }
-    ensures answer { result ≡ named_in (window (M.Memory.cells memory.old) slot) access }
-    ensures same { M.Memory.cells memory.new ≡ M.Memory.cells memory.old }
-    ensures outside { M.Memory.outside memory.new ≡ M.Memory.outside memory.old }
-{
-    match access {
-        Some(access) => get(memory, slot, access.cv.get()),
-        None => 0,
+/// What decides for a decoder among its variables.
+pub trait View: Copy {
+    // The view of these variables, and of the one among them that an access names.
+    ghost seen: { List ℕ → Option Access → Self };
+
+    /// Reads the variables that decide.
+    fn read<M: Memory>(window: &mut Window<'_, M>, access: Option<Access>) -> Self
+        ensures answer { result ≡ seen (variables window.old) access }
+        ensures kept { Unchanged window.old window.new };
+}
+
+impl View for MobileView {
+    ghost seen = { mobile_view };
+
+    fn read<M: Memory>(window: &mut Window<'_, M>, access: Option<Access>) -> MobileView {
+        let config = window.get(CvNumber::CONFIGURATION);
+        let short = window.get(CvNumber::SHORT_ADDRESS);
+        let high = window.get(CvNumber::LONG_ADDRESS_HIGH);
+        let low = window.get(CvNumber::LONG_ADDRESS_LOW);
+        let consist = window.get(CvNumber::CONSIST_ADDRESS);
+        let value = window.named(access);
+        MobileView {
+            own: own_address(config, short, high, low),
+            consist,
+            config,
+            value,
+        }
     }
 }
 
-/// The variables that decide for a mobile decoder.
-pub(crate) fn mobile_view<M: Memory>(
-    memory: &mut M,
-    slot: usize,
-    access: Option<Access>,
-) -> MobileView
-    requires { HasWindow slot (M.Memory.cells memory.old) }
-    ensures answer { result ≡ mobile_view (window (M.Memory.cells memory.old) slot) access }
-    ensures same { M.Memory.cells memory.new ≡ M.Memory.cells memory.old }
-    ensures outside { M.Memory.outside memory.new ≡ M.Memory.outside memory.old }
-{
-    let config = get(memory, slot, 29);
-    let short = get(memory, slot, 1);
-    let high = get(memory, slot, 17);
-    let low = get(memory, slot, 18);
-    let consist = get(memory, slot, 19);
-    let value = named(memory, slot, access);
-    MobileView {
-        own: own_address(config, short, high, low),
-        consist,
-        config,
-        value,
+impl View for AccessoryView {
+    ghost seen = { accessory_view };
+
+    fn read<M: Memory>(window: &mut Window<'_, M>, access: Option<Access>) -> AccessoryView {
+        AccessoryView {
+            config: window.get(CvNumber::ACCESSORY_CONFIGURATION),
+            value: window.named(access),
+        }
     }
 }
 
-/// The variables that decide for an accessory decoder.
-pub(crate) fn accessory_view<M: Memory>(
-    memory: &mut M,
-    slot: usize,
-    access: Option<Access>,
-) -> AccessoryView
-    requires { HasWindow slot (M.Memory.cells memory.old) }
-    ensures answer { result ≡ accessory_view (window (M.Memory.cells memory.old) slot) access }
-    ensures same { M.Memory.cells memory.new ≡ M.Memory.cells memory.old }
-    ensures outside { M.Memory.outside memory.new ≡ M.Memory.outside memory.old }
-{
-    let config = get(memory, slot, 541);
-    let value = named(memory, slot, access);
-    AccessoryView { config, value }
+impl<M: Memory> Window<'_, M> {
+    /// The variable that an access names, or 0.
+    fn named(&mut self, access: Option<Access>) -> u8
+        ensures answer { result ≡ named_in (variables self.old) access }
+        ensures kept { Unchanged self.old self.new }
+    {
+        match access {
+            Some(access) => self.get(access.cv),
+            None => 0,
+        }
+    }
 }

@@ -2,24 +2,16 @@ use crate::helpers::{send, value};
 use bank::Kind;
 use decoder::{Basic, Extended};
 use memory::ByteMemory;
-use state::{BasicState, ExtendedState};
 use std::test::Fail;
 
 /// A basic decoder, a mobile one and a basic one again.
 const KINDS: [Kind; 3] = [Kind::Basic, Kind::Mobile, Kind::Basic];
 
-fn basic(address: u16) -> Basic {
-    Basic {
-        address,
-        state: BasicState::new(),
-    }
-}
-
 #[test]
 fn outputs_are_switched_at_their_address(rt: HostRuntime) -> Result<(), Fail> {
     let mut bytes = [0u8; 3072];
     let mut memory = ByteMemory::new(&mut bytes);
-    let mut bank = [basic(1), basic(200)];
+    let mut bank = [Basic::new(1), Basic::new(200)];
     assert_eq!(rt;
         send(
             &mut bank,
@@ -49,7 +41,7 @@ fn outputs_are_switched_at_their_address(rt: HostRuntime) -> Result<(), Fail> {
 fn read_only_variables_stay(rt: HostRuntime) -> Result<(), Fail> {
     let mut bytes = [0u8; 3072];
     let mut memory = ByteMemory::new(&mut bytes);
-    let mut bank = [basic(1), basic(200)];
+    let mut bank = [Basic::new(1), Basic::new(200)];
     let write_519 = [0x81, 0xf0, 0xee, 0x06, 0x05, 0x9c];
     let write_521 = [0x81, 0xf0, 0xee, 0x08, 0x05, 0x92];
     send(&mut bank, Kind::Basic, &KINDS, &mut memory, &write_519)?;
@@ -66,10 +58,7 @@ fn read_only_variables_stay(rt: HostRuntime) -> Result<(), Fail> {
 fn aspects_are_shown(rt: HostRuntime) -> Result<(), Fail> {
     let mut bytes = [0u8; 1024];
     let mut memory = ByteMemory::new(&mut bytes);
-    let mut bank = [Extended {
-        address: 1,
-        state: ExtendedState::new(),
-    }];
+    let mut bank = [Extended::new(1)];
     let kinds = [Kind::Extended];
     assert_eq!(rt;
         send(

@@ -3,16 +3,9 @@ use decoder::Mobile;
 use memory::Memory;
 use packet::CvNumber;
 use reader::read;
-use state::{MobileState, Speed};
+use state::Speed;
 use std::process::Abort;
 use std::test::Fail;
-
-/// A mobile decoder at power-up.
-pub(crate) fn mobile() -> Mobile {
-    Mobile {
-        state: MobileState::new(),
-    }
-}
 
 /// The variables of the mobile decoder in a slot, as they are fitted: short address, 28 steps.
 pub(crate) fn fit<M: Memory>(rt: &impl Abort, memory: &mut M, slot: usize, short: u8) {
@@ -31,15 +24,7 @@ pub(crate) fn send<T: Listener, M: Memory>(
     packet: &[u8],
 ) -> Result<usize, Fail> {
     match read(packet) {
-        Ok(said) => Ok(deliver(
-            bank,
-            kind,
-            kinds,
-            memory,
-            packet,
-            said.target,
-            said.instruction,
-        )?),
+        Ok(said) => Ok(deliver(bank, kind, kinds, memory, packet, said)?),
         Err(_) => Err(Fail::new("the packet does not read")),
     }
 }

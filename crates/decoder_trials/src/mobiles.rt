@@ -1,5 +1,6 @@
-use crate::helpers::{fit, mobile, send, step, value};
+use crate::helpers::{fit, send, step, value};
 use bank::{Kind, power_up, set_variable};
+use decoder::Mobile;
 use memory::{ByteMemory, Memory, Strip, WordMemory};
 use packet::CvNumber;
 use state::Reply;
@@ -15,7 +16,7 @@ const WRITE_FIVE: [u8; 5] = [0x05, 0xec, 0x03, 0x0a, 0xe0];
 
 /// A packet to one decoder moves that one alone, whatever memory lies below.
 fn moves_one<M: Memory>(rt: &impl Abort, memory: &mut M) -> Result<(), Fail> {
-    let mut bank = [mobile(), mobile()];
+    let mut bank = [Mobile::new(), Mobile::new()];
     fit(rt, memory, 0, 3);
     fit(rt, memory, 1, 5);
     assert_eq!(rt;
@@ -56,7 +57,7 @@ fn one_hears_over_words_behind_a_strip(rt: HostRuntime) -> Result<(), Fail> {
 fn each_decoder_waits_for_itself(rt: HostRuntime) -> Result<(), Fail> {
     let mut bytes = [0u8; 2048];
     let mut memory = ByteMemory::new(&mut bytes);
-    let mut bank = [mobile(), mobile()];
+    let mut bank = [Mobile::new(), Mobile::new()];
     fit(&rt, &mut memory, 0, 3);
     fit(&rt, &mut memory, 1, 5);
     send(&mut bank, Kind::Mobile, &TWO, &mut memory, &WRITE_THREE)?;
@@ -72,7 +73,7 @@ fn each_decoder_waits_for_itself(rt: HostRuntime) -> Result<(), Fail> {
 fn a_setting_and_a_power_up_end_the_wait(rt: HostRuntime) -> Result<(), Fail> {
     let mut bytes = [0u8; 1024];
     let mut memory = ByteMemory::new(&mut bytes);
-    let mut bank = [mobile()];
+    let mut bank = [Mobile::new()];
     let one = [Kind::Mobile];
     fit(&rt, &mut memory, 0, 3);
     let Some(cv) = CvNumber::new(60) else {
@@ -95,7 +96,7 @@ fn a_setting_and_a_power_up_end_the_wait(rt: HostRuntime) -> Result<(), Fail> {
 fn a_consist_takes_speed_and_nothing_else(rt: HostRuntime) -> Result<(), Fail> {
     let mut bytes = [0u8; 1024];
     let mut memory = ByteMemory::new(&mut bytes);
-    let mut bank = [mobile()];
+    let mut bank = [Mobile::new()];
     let one = [Kind::Mobile];
     fit(&rt, &mut memory, 0, 3);
     assert_eq!(rt;
@@ -136,7 +137,7 @@ fn a_consist_takes_speed_and_nothing_else(rt: HostRuntime) -> Result<(), Fail> {
         &mut memory,
         &[0x05, 0x91, 0x94],
     )?;
-    assert_eq!(rt; bank[0].state.functions.get(1), Some(false));
+    assert_eq!(rt; bank[0].state.functions.get(1u8), Some(false));
     Ok(())
 }
 
@@ -144,15 +145,15 @@ fn a_consist_takes_speed_and_nothing_else(rt: HostRuntime) -> Result<(), Fail> {
 fn replies_are_enabled_by_a_bit(rt: HostRuntime) -> Result<(), Fail> {
     let mut bytes = [0u8; 1024];
     let mut memory = ByteMemory::new(&mut bytes);
-    let mut bank = [mobile()];
+    let mut bank = [Mobile::new()];
     let one = [Kind::Mobile];
     fit(&rt, &mut memory, 0, 3);
     let verify = [0x03, 0xe4, 0x00, 0x03, 0xe4];
     send(&mut bank, Kind::Mobile, &one, &mut memory, &verify)?;
-    assert_eq!(rt; bank[0].state.reply, Reply::None);
+    assert_eq!(rt; bank[0].state.reply, None);
     assert_eq!(rt; memory.write(28, 10), Ok(()));
     send(&mut bank, Kind::Mobile, &one, &mut memory, &verify)?;
-    assert_eq!(rt; bank[0].state.reply, Reply::Value(3));
+    assert_eq!(rt; bank[0].state.reply, Some(Reply::Value(3)));
     send(
         &mut bank,
         Kind::Mobile,
@@ -160,7 +161,7 @@ fn replies_are_enabled_by_a_bit(rt: HostRuntime) -> Result<(), Fail> {
         &mut memory,
         &[0x03, 0x0f, 0x0c],
     )?;
-    assert_eq!(rt; bank[0].state.reply, Reply::Acknowledgment);
+    assert_eq!(rt; bank[0].state.reply, Some(Reply::Acknowledgment));
     send(
         &mut bank,
         Kind::Mobile,
@@ -168,6 +169,6 @@ fn replies_are_enabled_by_a_bit(rt: HostRuntime) -> Result<(), Fail> {
         &mut memory,
         &[0x00, 0x0f, 0x0f],
     )?;
-    assert_eq!(rt; bank[0].state.reply, Reply::None);
+    assert_eq!(rt; bank[0].state.reply, None);
     Ok(())
 }
