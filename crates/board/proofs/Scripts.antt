@@ -1,5 +1,5 @@
 -- One fitting after another, and one call after another.
-use Rattle.std.proofs.Common.{◌≡◌, ℕ, ◌+◌, ◌<◌, true, cond, List, [], ◌∷◌, ◌++◌, map, length, get_or, take, drop, set, Ok, Err, Result, sym, refl, ap, ◌∙◌, subst, ap₂, arith}
+use Rattle.std.proofs.Common.{◌≡◌, ℕ, ◌+◌, ◌<◌, true, List, [], ◌∷◌, ◌++◌, map, length, get_or, take, drop, set, Ok, Err, Result, sym, refl, ap, ◌∙◌, subst, ap₂, arith}
 use Rattle.std.proofs.lemmas.List.{take_more, take_more_set, drop-drop, drop-set-lt, take_all, map_push, length_push}
 use Rattle.std.proofs.lemmas.Bool.{cond-true}
 use Rattle.fault.specs.declared.fault.Fault.{Fault}
@@ -15,11 +15,9 @@ use Rattle.script.specs.declared.fit.Fit.{Fit}
 use Rattle.script.specs.declared.fit.Fit.TheVariants as fits
 use Rattle.script.specs.declared.call.Call.{Call}
 use Rattle.script.specs.declared.answer.Answer.{Answer}
-use Rattle.script.specs.declared.answer.Answer.TheVariants.{Fitted}
-use Rattle.script.specs.Decoders.{answered}
 use Rattle.script.specs.Boards.{Lent, lent, bank_size, is_lent, decoders, Rest}
 use Rattle.script.specs.Fittings.{fit_kind, fitted, fitting_in, fitting, accepted, joining, fit_answers}
-use Rattle.script.specs.Calls.{after_call, after_all, answer_to, answers_to, answer_when}
+use Rattle.script.specs.Calls.{after_call, after_all, answer_to, answers_to, answer_by, after_by}
 use Rattle.script.specs.Promises.{Ran}
 use Rattle.script.proofs.Runs.{accepted_more, fit_answers_more, after_more, answers_more}
 use Rattle.roster.proofs.Decks.{rest_none, rest_then}
@@ -70,8 +68,8 @@ fitting_kept js f r = ap₂ (λ n c. fitting_in n c js f) (size_kept (fit_kind f
 
 -- ---- a place for each answer
 
-module _ (places places' : List Answer) (i : ℕ) (a : Answer) where
-  place_answered : (answers : List Answer) → i < length places' → take i places' ≡ answers → take (i + 1) (set places' i a) ≡ answers ++ a ∷ []
+module _ {A : Type 0} (places places' : List A) (i : ℕ) (a : A) where
+  place_answered : (answers : List A) → i < length places' → take i places' ≡ answers → take (i + 1) (set places' i a) ≡ answers ++ a ∷ []
   place_answered answers low e = take_more_set places' i a low ∙ ap (λ xs. xs ++ a ∷ []) e
 
   place_spare : drop i places' ≡ drop i places → drop (i + 1) (set places' i a) ≡ drop (i + 1) places
@@ -79,11 +77,11 @@ module _ (places places' : List Answer) (i : ℕ) (a : Answer) where
 
 -- ---- all fittings
 
-pub fitted_none : (fs : List Fit) (l : Lent) (ks : List Kind) (places : List Answer) → ks ≡ [] → FittedTo 0 fs l ks l places places
+pub fitted_none : (fs : List Fit) (l : Lent) (ks : List Kind) (places : List (Result ℕ Fault)) → ks ≡ [] → FittedTo 0 fs l ks l places places
 fitted_none fs l ks places e =
     subst (λ ks. FittedTo 0 fs l ks l places places) (sym e) (record { kinds = refl; decoders_are = (no_kinds l).0; enough = (no_kinds l).1; rest = rest_none; answered = refl; spare = refl })
 
-module _ {i : ℕ} {fs : List Fit} {l : Lent} {ks : List Kind} {l' : Lent} {places places' : List Answer} (t : FittedTo i fs l ks l' places places') where
+module _ {i : ℕ} {fs : List Fit} {l : Lent} {ks : List Kind} {l' : Lent} {places places' : List (Result ℕ Fault)} (t : FittedTo i fs l ks l' places places') where
   joined_to : (f : Fit) (A : List Fit) (ks₁ : List Kind) (l'' : Lent) (r : Result ℕ Fault) → ks ≡ map fit_kind A → decoders ks l' ≡ map fitted A → Joins f ks l' ks₁ l'' r → (ks₁ ≡ map fit_kind (joining A f r)) × (decoders ks₁ l'' ≡ map fitted (joining A f r)) × (is_lent ks₁ l'' ≡ true) × Rest ks₁ l l''
   joined_to f A ks₁ l'' (Ok j) k d joined = (
     joined.kinds ∙ ap (λ ks. ks ++ fit_kind f ∷ []) k ∙ sym (map_push fit_kind A f),
@@ -98,8 +96,8 @@ module _ {i : ℕ} {fs : List Fit} {l : Lent} {ks : List Kind} {l' : Lent} {plac
     subst (λ m. Rest ks₁ l m) (sym same.1) (subst (λ ks. Rest ks l l') (sym same.0) t.rest),
   )
 
-  pub fitted_more : (f d : Fit) (ks₁ : List Kind) (l'' : Lent) (r : Result ℕ Fault) (a : Answer) → i < length fs → i < length places' → f ≡ get_or fs i d → r ≡ fitting l' ks f → Joins f ks l' ks₁ l'' r → a ≡ answered Fitted r → FittedTo (i + 1) fs l ks₁ l'' places (set places' i a)
-  fitted_more f d ks₁ l'' r a low room at e joins is =
+  pub fitted_more : (f d : Fit) (ks₁ : List Kind) (l'' : Lent) (r : Result ℕ Fault) → i < length fs → i < length places' → f ≡ get_or fs i d → r ≡ fitting l' ks f → Joins f ks l' ks₁ l'' r → FittedTo (i + 1) fs l ks₁ l'' places (set places' i r)
+  fitted_more f d ks₁ l'' r low room at e joins =
       let A = accepted l (take i fs) in
       let more : take (i + 1) fs ≡ take i fs ++ f ∷ [] = take_more fs i d low ∙ ap (λ f. take i fs ++ f ∷ []) (sym at) in
       let r-is : r ≡ fitting l (map fit_kind A) f = e ∙ fitting_kept ks f t.rest ∙ ap (λ ks. fitting l ks f) t.kinds in
@@ -110,16 +108,16 @@ module _ {i : ℕ} {fs : List Fit} {l : Lent} {ks : List Kind} {l' : Lent} {plac
         decoders_are = j.1 ∙ ap (map fitted) (sym next);
         enough = j.2;
         rest = j.3;
-        answered = place_answered places places' i a (fit_answers l (take i fs)) room t.answered ∙ ap (λ a. fit_answers l (take i fs) ++ a ∷ []) (is ∙ ap (answered Fitted) r-is) ∙ sym (ap (fit_answers l) more ∙ fit_answers_more l [] (take i fs) f);
-        spare = place_spare places places' i a t.spare;
+        answered = place_answered places places' i r (fit_answers l (take i fs)) room t.answered ∙ ap (λ a. fit_answers l (take i fs) ++ a ∷ []) r-is ∙ sym (ap (fit_answers l) more ∙ fit_answers_more l [] (take i fs) f);
+        spare = place_spare places places' i r t.spare;
       }
 
 -- ---- all calls
 
-pub performed_none : (cs : List Call) (ks : List Kind) (l : Lent) (places : List Answer) → PerformedTo 0 cs ks l l places places
+pub performed_none : (cs : List Call) (ks : List Kind) (l : Lent) (places : List (Result Answer Fault)) → PerformedTo 0 cs ks l l places places
 performed_none cs ks l places = record { decoders_are = refl; rest = rest_none; answered = refl; spare = refl }
 
-pub performed_more : {i : ℕ} {cs : List Call} {ks : List Kind} {l l' : Lent} {places places' : List Answer} (t : PerformedTo i cs ks l l' places places') (c d : Call) (l'' : Lent) (a : Answer) → is_lent ks l ≡ true → i < length cs → i < length places' → c ≡ get_or cs i d → a ≡ answer_when (is_lent ks l') (answer_to (decoders ks l') c) → decoders ks l'' ≡ cond (is_lent ks l') (after_call (decoders ks l') c) (decoders ks l') → Rest ks l' l'' → PerformedTo (i + 1) cs ks l l'' places (set places' i a)
+pub performed_more : {i : ℕ} {cs : List Call} {ks : List Kind} {l l' : Lent} {places places' : List (Result Answer Fault)} (t : PerformedTo i cs ks l l' places places') (c d : Call) (l'' : Lent) (a : Result Answer Fault) → is_lent ks l ≡ true → i < length cs → i < length places' → c ≡ get_or cs i d → a ≡ answer_by ks l' (λ ds. answer_to ds c) → decoders ks l'' ≡ after_by ks l' (λ ds. after_call ds c) → Rest ks l' l'' → PerformedTo (i + 1) cs ks l l'' places (set places' i a)
 performed_more {i} {cs} {ks} {l} {l'} {places} {places'} t c d l'' a lent_at_lem low room at is dec rest =
     let ds = decoders ks l in
     let more : take (i + 1) cs ≡ take i cs ++ c ∷ [] = take_more cs i d low ∙ ap (λ c. take i cs ++ c ∷ []) (sym at) in
@@ -133,7 +131,7 @@ performed_more {i} {cs} {ks} {l} {l'} {places} {places'} t c d l'' a lent_at_lem
 
 -- ---- both
 
-module _ {fs : List Fit} {cs : List Call} {l l₁ l₂ : Lent} {ks : List Kind} {ns ns' xs xs' : List Answer} (f : FittedTo (length fs) fs l ks l₁ ns ns') (p : PerformedTo (length cs) cs ks l₁ l₂ xs xs') where
+module _ {fs : List Fit} {cs : List Call} {l l₁ l₂ : Lent} {ks : List Kind} {ns ns' : List (Result ℕ Fault)} {xs xs' : List (Result Answer Fault)} (f : FittedTo (length fs) fs l ks l₁ ns ns') (p : PerformedTo (length cs) cs ks l₁ l₂ xs xs') where
   all_fits : take (length fs) fs ≡ fs
   all_fits = take_all (length fs) fs (omega arith)
 

@@ -1,5 +1,5 @@
 -- What a board holds: the kinds of its decoders, in the order of fitting. And what one fitting does.
-use Rattle.std.specs.Prelude.{◌≡◌, ℕ, cond, ◌&&◌, List, [], ◌∷◌, ◌++◌, length, take, Ok, Err, Result, nat_lt, slice_set}
+use Rattle.std.specs.Prelude.{◌≡◌, ℕ, cond, ◌&&◌, List, [], ◌∷◌, ◌++◌, length, Ok, Err, Result, nat_lt, slice_set}
 use Rattle.fault.specs.declared.fault.Fault.{Fault}
 use Rattle.fault.specs.declared.refusal.Refusal.TheVariants.{FittedAddress, BankFull}
 use Rattle.decoder.specs.Alone.{Own}
@@ -13,10 +13,10 @@ use Rattle.board.specs.declared.boards.Fitting.{Fitting}
 use Rattle.board.specs.declared.boards.Running.{Running}
 
 abbrev pub fitting_kinds : Fitting → List Kind
-fitting_kinds b = take b.fitted b.kinds
+fitting_kinds b = b.kinds.items
 
 abbrev pub running_kinds : Running → List Kind
-running_kinds b = take b.fitted b.kinds
+running_kinds b = b.kinds.items
 
 -- the number of one decoder more in a bank of so many places, before its cells are asked for
 abbrev pub admitted : ℕ → List Kind → Fit → Result ℕ Fault

@@ -1,20 +1,23 @@
-ghost use Rattle.std.specs.Prelude.{◌≡◌, ◌<◌, [], ◌∷◌, ◌++◌, length};
+ghost use Rattle.std.specs.Prelude.{◌≡◌, true, false, [], length};
 ghost use Rattle.decoder.specs.Fitted.{mobile_fitted, basic_fitted, extended_fitted};
 ghost use Rattle.bank.specs.declared.kind.Kind.TheVariants as kind;
 ghost use Rattle.script.specs.declared.fit.Fit.TheVariants as fits;
-ghost use Rattle.script.specs.Boards.{lent};
-ghost use Rattle.script.specs.Fittings.{fit_kind, is_address, fitting_in, fitting};
+ghost use Rattle.script.specs.Decoders.{variables_of};
+ghost use Rattle.script.specs.Fittings.{fit_kind, fitted, is_address, fitting_in, fitting};
+ghost use Rattle.bank.specs.Banks.{unless_few};
+ghost use Rattle.bank.specs.Windows.{has_window, Wrote};
+ghost use Rattle.roster.specs.Held.{held, SameLenders};
 ghost use Rattle.board.specs.Joins.{Joins};
 ghost use Rattle.board.specs.Slots.{fitting_kinds, running_kinds, admitted, Added};
 
 use crate::boards::{Fitting, Running};
-use crate::refusing::refused;
+use arrayvec::ArrayVec;
 use bank::{Kind, count_of, fit_accessory_variables, fit_mobile_variables};
 use decoder::{Address, Basic, Extended, Mobile};
 use fault::{Fault, Refusal};
 use memory::Memory;
+use roster::BanksMut;
 use script::Fit;
-use state::{BasicState, ExtendedState, MobileState};
 
 /// Whether a decoder can have the address. No broadcast is one.
 fn is_address(fit: Fit) -> bool
@@ -28,13 +31,16 @@ fn is_address(fit: Fit) -> bool
     }
 }
 
-fn kind_of(fit: Fit) -> Kind
-    ensures { result ≡ fit_kind fit }
+/// Gives a new decoder its variables.
+fn fit_variables<M: Memory>(memory: &mut M, slot: usize, fit: Fit) -> Result<(), Fault>
+    ensures answer { result ≡ unless_few (has_window slot (M.Memory.cells memory.old)) }
+    ensures cells { has_window slot (M.Memory.cells memory.old) ≡ true → Wrote (M.Memory.cells memory.old) (M.Memory.cells memory.new) slot (variables_of (fitted fit)) }
+    ensures refused { has_window slot (M.Memory.cells memory.old) ≡ false → M.Memory.cells memory.new ≡ M.Memory.cells memory.old }
+    ensures outside { M.Memory.outside memory.new ≡ M.Memory.outside memory.old }
 {
     match fit {
-        Fit::Mobile(_) => Kind::Mobile,
-        Fit::Basic(_) => Kind::Basic,
-        Fit::Extended(_) => Kind::Extended,
+        Fit::Mobile(address) => fit_mobile_variables(memory, slot, address),
+        Fit::Basic(_) | Fit::Extended(_) => fit_accessory_variables(memory, slot),
     }
 }
 
@@ -44,8 +50,7 @@ impl Fitting {
         ensures { fitting_kinds result ≡ [] }
     {
         Fitting {
-            kinds: [Kind::Mobile; 32],
-            fitted: 0,
+            kinds: ArrayVec::new(),
         }
     }
 
@@ -53,15 +58,15 @@ impl Fitting {
     pub fn kinds(&self) -> &[Kind]
         ensures { result.now ≡ fitting_kinds self.now }
     {
-        &self.kinds[0..self.fitted]
+        self.kinds.as_slice()
     }
 
     /// From here on the board runs.
     pub fn start(self) -> Running
         ensures { running_kinds result ≡ fitting_kinds self }
     {
-        let Fitting { kinds, fitted } = self;
-        Running { kinds, fitted }
+        let Fitting { kinds } = self;
+        Running { kinds }
     }
 
     /// The number of one decoder more, where its address and the places on the board and in its bank allow it.
@@ -69,23 +74,36 @@ impl Fitting {
         ensures { result ≡ admitted places (fitting_kinds self.now) fit }
     {
         if !is_address(fit) {
-            return Err(refused(Refusal::FittedAddress));
+            return Err(Refusal::FittedAddress.into());
         }
-        let number = count_of(kind_of(fit), self.kinds());
-        if self.fitted < 32 && number < places {
+        let number = count_of(fit.kind(), self.kinds());
+        if self.kinds.len() < 32 && number < places {
             Ok(number)
         } else {
-            Err(refused(Refusal::BankFull))
+            Err(Refusal::BankFull.into())
         }
     }
 
-    fn add(&mut self, kind: Kind)
-        requires { length (fitting_kinds self.old) < 32 }
-        ensures { (fitting_kinds self.new) ≡ (fitting_kinds self.old) ++ kind ∷ [] }
+    /// Fits a decoder of any kind with this record, and answers its number.
+    fn join<T: Drop, M: Memory>(
+        &mut self,
+        fit: Fit,
+        new: T,
+        bank: &mut [T],
+        memory: &mut M,
+    ) -> Result<usize, Fault>
+        ensures answer { result ≡ fitting_in (length bank.old) (length (M.Memory.cells memory.old)) (fitting_kinds self.old) fit }
+        ensures added { Added (fit_kind fit) (record { rec = new; vars = variables_of (fitted fit) }) (fitting_kinds self.old) bank.old (M.Memory.cells memory.old) (fitting_kinds self.new) bank.new (M.Memory.cells memory.new) result }
+        ensures outside { M.Memory.outside memory.new ≡ M.Memory.outside memory.old }
     {
-        self.kinds[self.fitted] = kind;
-        self.fitted += 1;
+        let number = self.admit(fit, bank.len())?;
+        fit_variables(memory, self.kinds.len(), fit)?;
+        bank[number] = new;
+        self.kinds.push(fit.kind());
+        Ok(number)
     }
+
+    // The three below share `join`; each takes its kind's own address and bank, and promises its kind's own decoder.
 
     /// Fits a mobile decoder at a short or a long address, and answers its number.
     pub fn fit_mobile<M: Memory>(
@@ -98,13 +116,7 @@ impl Fitting {
         ensures added { Added kind.Mobile (mobile_fitted address) (fitting_kinds self.old) mobiles.old (M.Memory.cells memory.old) (fitting_kinds self.new) mobiles.new (M.Memory.cells memory.new) result }
         ensures outside { M.Memory.outside memory.new ≡ M.Memory.outside memory.old }
     {
-        let number = self.admit(Fit::Mobile(address), mobiles.len())?;
-        fit_mobile_variables(memory, self.fitted, address)?;
-        mobiles[number] = Mobile {
-            state: MobileState::new(),
-        };
-        self.add(Kind::Mobile);
-        Ok(number)
+        self.join(Fit::Mobile(address), Mobile::new(), mobiles, memory)
     }
 
     /// Fits a basic accessory decoder, and answers its number.
@@ -118,14 +130,7 @@ impl Fitting {
         ensures added { Added kind.Basic (basic_fitted address) (fitting_kinds self.old) basics.old (M.Memory.cells memory.old) (fitting_kinds self.new) basics.new (M.Memory.cells memory.new) result }
         ensures outside { M.Memory.outside memory.new ≡ M.Memory.outside memory.old }
     {
-        let number = self.admit(Fit::Basic(address), basics.len())?;
-        fit_accessory_variables(memory, self.fitted)?;
-        basics[number] = Basic {
-            address,
-            state: BasicState::new(),
-        };
-        self.add(Kind::Basic);
-        Ok(number)
+        self.join(Fit::Basic(address), Basic::new(address), basics, memory)
     }
 
     /// Fits an extended accessory decoder, and answers its number.
@@ -139,32 +144,29 @@ impl Fitting {
         ensures added { Added kind.Extended (extended_fitted address) (fitting_kinds self.old) extendeds.old (M.Memory.cells memory.old) (fitting_kinds self.new) extendeds.new (M.Memory.cells memory.new) result }
         ensures outside { M.Memory.outside memory.new ≡ M.Memory.outside memory.old }
     {
-        let number = self.admit(Fit::Extended(address), extendeds.len())?;
-        fit_accessory_variables(memory, self.fitted)?;
-        extendeds[number] = Extended {
-            address,
-            state: ExtendedState::new(),
-        };
-        self.add(Kind::Extended);
-        Ok(number)
+        self.join(
+            Fit::Extended(address),
+            Extended::new(address),
+            extendeds,
+            memory,
+        )
     }
 
     /// Fits a decoder of any kind, and answers its number.
     pub fn fit<M: Memory>(
         &mut self,
-        mobiles: &mut [Mobile],
-        basics: &mut [Basic],
-        extendeds: &mut [Extended],
+        banks: &mut BanksMut<'_>,
         memory: &mut M,
         fit: Fit,
     ) -> Result<usize, Fault>
-        ensures answer { result ≡ fitting (lent mobiles.old basics.old extendeds.old (M.Memory.cells memory.old) (M.Memory.outside memory.old)) (fitting_kinds self.old) fit }
-        ensures joins { Joins fit (fitting_kinds self.old) (lent mobiles.old basics.old extendeds.old (M.Memory.cells memory.old) (M.Memory.outside memory.old)) (fitting_kinds self.new) (lent mobiles.new basics.new extendeds.new (M.Memory.cells memory.new) (M.Memory.outside memory.new)) result }
+        ensures answer { result ≡ fitting (held M.Memory banks.old memory.old) (fitting_kinds self.old) fit }
+        ensures joins { Joins fit (fitting_kinds self.old) (held M.Memory banks.old memory.old) (fitting_kinds self.new) (held M.Memory banks.new memory.new) result }
+        ensures lenders { SameLenders banks.old banks.new }
     {
         match fit {
-            Fit::Mobile(address) => self.fit_mobile(mobiles, memory, address),
-            Fit::Basic(address) => self.fit_basic(basics, memory, address),
-            Fit::Extended(address) => self.fit_extended(extendeds, memory, address),
+            Fit::Mobile(address) => self.fit_mobile(banks.mobiles, memory, address),
+            Fit::Basic(address) => self.fit_basic(banks.basics, memory, address),
+            Fit::Extended(address) => self.fit_extended(banks.extendeds, memory, address),
         }
     }
 }

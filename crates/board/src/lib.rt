@@ -7,7 +7,6 @@
 pub mod boards;
 mod fitting;
 mod performing;
-mod refusing;
 mod running;
 mod runs;
 

@@ -1,12 +1,13 @@
 -- A decoder that is named: what is read of it, and a setting.
-use Rattle.std.proofs.Common.{◌≡◌, ℕ, ◌-◌, ◌*◌, ◌<◌, ◌≤◌, Bool, true, false, ltb, leb, ◌≢◌, List, [], ◌∷◌, length, get_or, set, Some, None, Err, Result, sym, refl, ap, ◌∙◌, subst, ap₂, ⊎_elim, arith}
+use Rattle.std.proofs.Common.{◌≡◌, ℕ, ◌+◌, ◌-◌, ◌*◌, ◌<◌, ◌≤◌, Bool, true, false, ltb, leb, ◌≢◌, List, [], ◌∷◌, length, get_or, set, Some, None, Ok, Err, Option, Result, sym, refl, ap, ◌∙◌, subst, ap₂, ◌⊎◌, ⊎_elim, arith}
 use Rattle.std.proofs.lemmas.List.{get_or_default, set-get_or}
-use Rattle.std.proofs.lemmas.Bool.{cond-true, cond-false, ltb-true, ltb-false, le-leb, lt-leb, and_from, and_left, and_right, cases_Bool, eq-eqb}
+use Rattle.std.proofs.lemmas.Bool.{cond-true, cond-false, ltb-true, ltb-false, le-leb, lt-leb, lt-ltb, and_from, and_left, and_right, cases_Bool, eq-eqb}
 use Rattle.fault.specs.declared.fault.Fault.{Fault}
-use Rattle.fault.specs.declared.refusal.Refusal.TheVariants.{NoSuchDecoder, LentTooShort}
+use Rattle.fault.specs.declared.refusal.Refusal.{Refusal}
+use Rattle.fault.specs.declared.refusal.Refusal.TheVariants.{NoSuchDecoder, NumberOutOfRange, LentTooShort}
 use Rattle.memory.specs.Cells.{Outside}
 use Rattle.packet.specs.declared.cv.CvNumber.{CvNumber}
-use Rattle.packet.specs.Wires.{if_number}
+use Rattle.packet.specs.Wires.{if_number, number_in}
 use Rattle.packet.proofs.Cvs.{cv_is}
 use Rattle.state.specs.Starting.{mobile_start, basic_start, extended_start}
 use Rattle.decoder.specs.declared.records.Mobile as mobile-record
@@ -18,17 +19,24 @@ use Rattle.bank.specs.declared.kind.Kind.{Kind}
 use Rattle.bank.specs.declared.kind.Kind.TheVariants.{Mobile, Basic, Extended}
 use Rattle.bank.specs.Kinds.{is_kind, count_below, count_of, SlotOf}
 use Rattle.bank.specs.Windows.{window, Wrote}
-use Rattle.bank.specs.Banks.{ChangedAt}
+use Rattle.bank.specs.Banks.{ChangedAt, is_there, unless_short}
 use Rattle.bank.proofs.Counts.{count_less, count_apart}
 use Rattle.bank.proofs.Turns.{kept_beyond}
 use Rattle.script.specs.declared.name.DecoderName.{DecoderName}
 use Rattle.script.specs.declared.call.Request.TheVariants.{Set}
-use Rattle.script.specs.Decoders.{Decoder, lives, decoder_of, changed, refused_by, is_variable, cv_of, events_of, variables_of}
+use Rattle.script.specs.Decoders.{Decoder, lives, decoder_of, changed, on_mobile, in_range, refused_by, is_variable, if_variable, cv_of, events_of, variables_of}
 use Rattle.script.specs.Decoders.Decoder.{mobile, basic, extended}
-use Rattle.script.specs.Boards.{Lent, lent, decoder_in, decoder_at, decoders, Rest}
-use Rattle.script.specs.Calls.{about, when_lent}
+use Rattle.script.specs.Boards.{Lent, lent, is_lent, decoder_in, decoder_at, decoders, Rest}
+use Rattle.script.specs.Calls.{about, when_lent, answer_of, after_by}
 use Rattle.script.proofs.Lives.{lives_none}
-use Rattle.roster.proofs.Decks.{is_kind_lem, as_kind, found_at, found_none, changes_at, one_changed, get_or-decoders}
+use Rattle.std.specs.Option.{ok_or}
+use Rattle.memory.specs.declared.memory.Memory.{Ghosts}
+use Rattle.script.proofs.Slots.{changed_missing}
+use Rattle.roster.specs.declared.banks.Banks.{Banks}
+use Rattle.roster.specs.declared.banks.BanksMut.{BanksMut}
+use Rattle.roster.specs.Held.{seen, held, Located}
+use Rattle.roster.proofs.Sendings.{enough}
+use Rattle.roster.proofs.Decks.{is_kind_lem, as_kind, found_at, found_none, changes_at, one_changed, get_or-decoders, rest_none}
 
 -- ---- the number of a variable
 
@@ -68,6 +76,23 @@ cv_number v cv e = (a_number v cv.number e).0
 pub cv_of_lem : (v : ℕ) (cv : CvNumber) → Some cv.number ≡ if_number v → cv_of v ≡ cv
 cv_of_lem v cv e = let n = a_number v cv.number e in cv_is (cv_of v) cv (omega (arith, n.0, n.2, n.3))
 
+-- by what is made of the number, and by the refusal where there is none
+pub no_cv : (o : Option CvNumber) (v : ℕ) (r e : Refusal) → number_in o ≡ if_number v → Err e ≡ ok_or o r → (is_variable v ≡ false) × (e ≡ r)
+no_cv (Some cv) v r e h q = let z : ◌≡◌ {A = ℕ} 0 1 = cc in absurd (omega arith)
+no_cv None v r e h q = (not_variable v h, cc)
+
+pub a_cv : (o : Option CvNumber) (v : ℕ) (r : Refusal) (cv : CvNumber) → number_in o ≡ if_number v → Ok cv ≡ ok_or o r → Some cv.number ≡ if_number v
+a_cv (Some d) v r cv h q = let same : cv ≡ d = cc in ap (λ (cv : CvNumber). Some cv.number) same ∙ h
+a_cv None v r cv h q = let z : ◌≡◌ {A = ℕ} 0 1 = cc in absurd (omega arith)
+
+pub is_in_range : {A : Type 0} (o : Option A) (e : Fault) → e ≡ refused_by NumberOutOfRange → ok_or o e ≡ in_range o
+is_in_range (Some x) e q = refl
+is_in_range None e q = ap Err q
+
+pub no_cv_number : (o : Option CvNumber) (v : ℕ) (r e : Refusal) → number_in o ≡ if_number v → Err e ≡ ok_or o r → None ≡ if_number v
+no_cv_number (Some cv) v r e h q = let z : ◌≡◌ {A = ℕ} 0 1 = cc in absurd (omega arith)
+no_cv_number None v r e h q = h
+
 -- ---- answers
 
 pub lent_is : {A : Type 0} (b : Bool) (r : Result A Fault) → b ≡ true → r ≡ when_lent b r
@@ -79,6 +104,50 @@ module _ (ks : List Kind) (l : Lent) (n : DecoderName) where
 
   pub about_some : {A : Type 0} (f : Decoder → Result A Fault) (s : ℕ) → SlotOf (is_kind ks n.kind) (length ks) n.number (Some s) → about f (decoder_of n (decoders ks l)) ≡ f (decoder_at ks l s)
   about_some f s h = ap (about f) (found_at ks l n s h)
+
+-- ---- the slot of the decoder that is named
+
+-- banks that are lent to be read hold what those hold of which they are a part
+pub shared_is : {M : Type 0} (m : Ghosts M) (b : BanksMut) (r : Banks) (x : M) → r.mobiles.now ≡ b.mobiles.now → r.basics.now ≡ b.basics.now → r.extendeds.now ≡ b.extendeds.now → seen m r x ≡ held m b x
+shared_is m b r x em eb ee =
+    ap (λ ms. lent ms r.basics.now r.extendeds.now (m.cells x) (m.outside x)) em
+    ∙ ap₂ (λ bs es. lent b.mobiles.now bs es (m.cells x) (m.outside x)) eb ee
+
+-- nothing else to say than that enough is lent
+abbrev done : Result (Unit {0}) Fault
+done = Ok tt
+
+pub enough_of : (b : Bool) (x : Unit {0}) → when_lent b done ≡ Ok x → b ≡ true
+enough_of b x e = ⊎_elim (λ t. t) (λ f. let q : Err (refused_by LentTooShort) ≡ Ok x = sym (cond-false _ _ _ f) ∙ e in let z : ◌≡◌ {A = ℕ} 0 1 = cc in absurd (omega arith)) (cases_Bool b)
+
+too_short : {A B : Type 0} (b : Bool) (r : Result A Fault) (r' : Result B Fault) (e : Fault) → b ≡ false → when_lent b r ≡ Err e → when_lent b r' ≡ Err e
+too_short {A} {B} b r r' e f h =
+    let q : Err (refused_by LentTooShort) ≡ Err e = sym (cond-false b r (Err (refused_by LentTooShort)) f) ∙ h in
+    let same : refused_by LentTooShort ≡ e = cc in
+    cond-false _ _ _ f ∙ ap Err same
+
+pub short_of : {B : Type 0} (b : Bool) (r : Result B Fault) (e : Fault) → when_lent b done ≡ Err e → when_lent b r ≡ Err e
+short_of b r e h =
+    ⊎_elim
+    (λ t. let q : done ≡ Err e = sym (cond-true _ _ _ t) ∙ h in let z : ◌≡◌ {A = ℕ} 0 1 = cc in absurd (omega arith))
+    (λ f. too_short b done r e f h)
+    (cases_Bool b)
+
+module _ (ks : List Kind) (l : Lent) (n : DecoderName) where
+  pub located : (o : Option ℕ) (r : Result ℕ Fault) (e : Fault) → e ≡ refused_by NoSuchDecoder → is_lent ks l ≡ true → SlotOf (is_kind ks n.kind) (length ks) n.number o → r ≡ ok_or o e → Located ks l n r
+  located (Some s) r e q is h q' = subst (Located ks l n) (sym q') (is, h)
+  located None r e q is h q' = subst (Located ks l n) (sym q') (sym (lent_is (is_lent ks l) _ is) ∙ about_none ks l n (λ _. done) h ∙ ap Err (sym q))
+
+  -- nothing changes by what cannot be asked
+  pub unchanged : (g : Decoder → Decoder) (e : Fault) → Located ks l n (Err e) → decoders ks l ≡ after_by ks l (changed g n.kind n.number)
+  unchanged g e h = ⊎_elim (λ t. go t (decoder_of n (decoders ks l)) refl (lent_is (is_lent ks l) _ t ∙ h)) (λ t. sym (cond-false _ _ _ t)) (cases_Bool (is_lent ks l))
+    where
+      go : is_lent ks l ≡ true → (o : Option Decoder) → decoder_of n (decoders ks l) ≡ o → about (λ _. done) o ≡ Err e → decoders ks l ≡ after_by ks l (changed g n.kind n.number)
+      go t None q r = sym (cond-true _ _ _ t ∙ changed_missing g n.kind (decoders ks l) n.number q)
+      go t (Some d) q r = let z : ◌≡◌ {A = ℕ} 0 1 = cc in absurd (omega arith)
+
+  pub asked_at : {A : Type 0} (f : Decoder → Result A Fault) (s : ℕ) → Located ks l n (Ok s) → answer_of ks l n f ≡ f (decoder_at ks l s)
+  asked_at f s h = sym (lent_is (is_lent ks l) _ h.0) ∙ about_some ks l n f s h.1
 
 -- ---- by kind
 
@@ -109,6 +178,36 @@ module _ (ks : List Kind) (l : Lent) (s j : ℕ) where
     extended_is x =
         as_kind ks l Extended s h.1
         ∙ ap (λ r. extended (own r (window l.cells s))) (ap (λ k. get_or l.extendeds k (record { address = 0; state = extended_start })) h.2 ∙ get_or_default l.extendeds j (record { address = 0; state = extended_start }) x extended_there)
+
+-- the decoder that is named, where it was located
+module _ (ks : List Kind) (l : Lent) (n : DecoderName) (s : ℕ) (h : Located ks l n (Ok s)) where
+  pub as_slot : (k : Kind) → n.kind ≡ k → SlotOf (is_kind ks k) (length ks) n.number (Some s)
+  as_slot k e = subst (λ k. SlotOf (is_kind ks k) (length ks) n.number (Some s)) e h.1
+
+  pub slot_room : 1024 * s + 1024 ≤ length l.cells
+  slot_room = omega (arith, (enough ks l h.0).cells, h.1.0)
+
+  pub mobile_room : n.kind ≡ Mobile → n.number < length l.mobiles
+  mobile_room e = mobile_there ks l s n.number (as_slot Mobile e) (enough ks l h.0).mobiles
+
+  pub basic_room : n.kind ≡ Basic → n.number < length l.basics
+  basic_room e = basic_there ks l s n.number (as_slot Basic e) (enough ks l h.0).basics
+
+  pub extended_room : n.kind ≡ Extended → n.number < length l.extendeds
+  extended_room e = extended_there ks l s n.number (as_slot Extended e) (enough ks l h.0).extendeds
+
+  pub asked_mobile : {A : Type 0} (f : Decoder → Result A Fault) (x : mobile-record.Mobile) → n.kind ≡ Mobile → answer_of ks l n f ≡ f (mobile (own (get_or l.mobiles n.number x) (window l.cells s)))
+  asked_mobile f x e = asked_at ks l n f s h ∙ ap f (mobile_is ks l s n.number (as_slot Mobile e) (enough ks l h.0).mobiles x)
+
+  pub asked_basic : {A : Type 0} (f : Decoder → Result A Fault) (x : basic-record.Basic) → n.kind ≡ Basic → answer_of ks l n f ≡ f (basic (own (get_or l.basics n.number x) (window l.cells s)))
+  asked_basic f x e = asked_at ks l n f s h ∙ ap f (basic_is ks l s n.number (as_slot Basic e) (enough ks l h.0).basics x)
+
+  pub asked_extended : {A : Type 0} (f : Decoder → Result A Fault) (x : extended-record.Extended) → n.kind ≡ Extended → answer_of ks l n f ≡ f (extended (own (get_or l.extendeds n.number x) (window l.cells s)))
+  asked_extended f x e = asked_at ks l n f s h ∙ ap f (extended_is ks l s n.number (as_slot Extended e) (enough ks l h.0).extendeds x)
+
+  -- what only mobile decoders have is refused of others
+  pub asked_other : (f : mobile-record.Mobile → Result Bool Fault) → (n.kind ≡ Basic) ⊎ (n.kind ≡ Extended) → answer_of ks l n (on_mobile f) ≡ Err (refused_by NoSuchDecoder)
+  asked_other f = ⊎_elim (λ e. asked_basic (on_mobile f) (record { address = 0; state = basic_start }) e) (λ e. asked_extended (on_mobile f) (record { address = 0; state = extended_start }) e)
 
 -- whatever the kind, its variables are the slot's window
 pub window_of : (ks : List Kind) (l : Lent) (s : ℕ) → variables_of (decoder_at ks l s) ≡ window l.cells s
@@ -251,3 +350,57 @@ no_setting ks l n s v x h e =
     ∙ ap (λ es. set (decoders ks l) s (lives (decoder_at ks l s) es)) (cond-false _ _ _ (not_variable v e))
     ∙ ap (set (decoders ks l) s) (lives_none (decoder_at ks l s) ∙ sym (get_or-decoders ks l s (decoder_at ks l s) h.0))
     ∙ set-get_or (decoders ks l) s (decoder_at ks l s))
+
+-- what a setting comes to
+pub record Done (ks : List Kind) (l l' : Lent) (n : DecoderName) (v x : ℕ) (r : Result (Unit {0}) Fault) : Type 0 where
+  pub answer : r ≡ answer_of ks l n (λ _. if_variable v tt)
+  pub after : decoders ks l' ≡ after_by ks l (changed (λ d. lives d (events_of (Set v x))) n.kind n.number)
+  pub rest : Rest ks l l'
+
+module _ (ks : List Kind) (l : Lent) (n : DecoderName) (s : ℕ) (h : Located ks l n (Ok s)) (v x : ℕ) where
+  pub set_nothing : (r : Result (Unit {0}) Fault) → is_variable v ≡ false → None ≡ if_number v → r ≡ Err (refused_by NumberOutOfRange) → Done ks l l n v x r
+  set_nothing r none e q = record {
+    answer = q ∙ sym (asked_at ks l n (λ _. if_variable v tt) s h ∙ cond-false _ _ _ none);
+    after = no_setting ks l n s v x h.1 e ∙ sym (cond-true _ _ _ h.0);
+    rest = rest_none;
+  }
+
+  module _ (cv : CvNumber) (e : Some cv.number ≡ if_number v) (c' : List ℕ) (o' : List Outside) (out : o' ≡ l.outside) (r : Result (Unit {0}) Fault) where
+    accepted : r ≡ Ok tt → r ≡ answer_of ks l n (λ _. if_variable v tt)
+    accepted q = q ∙ sym (asked_at ks l n (λ _. if_variable v tt) s h ∙ cond-true _ _ _ (is_variable_lem v cv e))
+
+    is_set : {ds : List Decoder} → ds ≡ set (decoders ks l) s (lives (decoder_at ks l s) (setting cv x ∷ [])) → ds ≡ after_by ks l (changed (λ d. lives d (events_of (Set v x))) n.kind n.number)
+    is_set q = q ∙ setting_at ks l n s v x cv h.1 e ∙ sym (cond-true _ _ _ h.0)
+
+    there : {X : Type 0} (bank : List X) → n.number < length bank → is_there n.number s bank l.cells ≡ true
+    there bank room = and_from _ _ (lt-ltb n.number (length bank) room) (le-leb (1024 * s + 1024) (length l.cells) (slot_room ks l n s h))
+
+    pub set_in_mobiles : n.kind ≡ Mobile → (bank' : List mobile-record.Mobile) → r ≡ unless_short (is_there n.number s l.mobiles l.cells) tt → (is_there n.number s l.mobiles l.cells ≡ true → ChangedAt n.number mobile_rules.unwaits l.mobiles bank') → (is_there n.number s l.mobiles l.cells ≡ true → Wrote l.cells c' s (set (window l.cells s) (cv.number - 1) x)) → Done ks l (lent bank' l.basics l.extendeds c' o') n v x r
+    set_in_mobiles k bank' q ch wrote =
+        let t = there l.mobiles (mobile_room ks l n s h k) in
+        let at = as_slot ks l n s h Mobile k in
+        record {
+          answer = accepted (q ∙ cond-true _ _ _ t);
+          after = is_set (set-mobile ks l.cells c' l.outside o' out s n.number cv x (wrote t) l.mobiles l.basics l.extendeds bank' at (ch t));
+          rest = rest_mobile ks l.cells c' l.outside o' out s n.number cv x (wrote t) l.mobiles l.basics l.extendeds bank' at (ch t);
+        }
+
+    pub set_in_basics : n.kind ≡ Basic → (bank' : List basic-record.Basic) → r ≡ unless_short (is_there n.number s l.basics l.cells) tt → (is_there n.number s l.basics l.cells ≡ true → ChangedAt n.number basic_rules.unwaits l.basics bank') → (is_there n.number s l.basics l.cells ≡ true → Wrote l.cells c' s (set (window l.cells s) (cv.number - 1) x)) → Done ks l (lent l.mobiles bank' l.extendeds c' o') n v x r
+    set_in_basics k bank' q ch wrote =
+        let t = there l.basics (basic_room ks l n s h k) in
+        let at = as_slot ks l n s h Basic k in
+        record {
+          answer = accepted (q ∙ cond-true _ _ _ t);
+          after = is_set (set-basic ks l.cells c' l.outside o' out s n.number cv x (wrote t) l.mobiles l.basics l.extendeds bank' at (ch t));
+          rest = rest_basic ks l.cells c' l.outside o' out s n.number cv x (wrote t) l.mobiles l.basics l.extendeds bank' at (ch t);
+        }
+
+    pub set_in_extendeds : n.kind ≡ Extended → (bank' : List extended-record.Extended) → r ≡ unless_short (is_there n.number s l.extendeds l.cells) tt → (is_there n.number s l.extendeds l.cells ≡ true → ChangedAt n.number extended_rules.unwaits l.extendeds bank') → (is_there n.number s l.extendeds l.cells ≡ true → Wrote l.cells c' s (set (window l.cells s) (cv.number - 1) x)) → Done ks l (lent l.mobiles l.basics bank' c' o') n v x r
+    set_in_extendeds k bank' q ch wrote =
+        let t = there l.extendeds (extended_room ks l n s h k) in
+        let at = as_slot ks l n s h Extended k in
+        record {
+          answer = accepted (q ∙ cond-true _ _ _ t);
+          after = is_set (set-extended ks l.cells c' l.outside o' out s n.number cv x (wrote t) l.mobiles l.basics l.extendeds bank' at (ch t));
+          rest = rest_extended ks l.cells c' l.outside o' out s n.number cv x (wrote t) l.mobiles l.basics l.extendeds bank' at (ch t);
+        }

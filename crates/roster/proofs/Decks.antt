@@ -18,7 +18,7 @@ use Rattle.script.specs.Decoders.{Decoder, kind_of, decoder_of, changed}
 use Rattle.script.specs.Decoders.Decoder.{mobile, basic, extended}
 use Rattle.script.specs.Boards.{Lent, decoder_in, decoder_at, decoders, Rest}
 use Rattle.script.proofs.Names.{same_is, same_self}
-use Rattle.script.proofs.Slots.{slot_found, slot_missing, changed_at, changed_missing}
+use Rattle.script.proofs.Slots.{slot_found, slot_missing, changed_at}
 
 -- ---- kinds
 
@@ -89,9 +89,6 @@ module _ (ks : List Kind) (l : Lent) where
     changes_at g s h =
         changed_at g n.kind (decoders ks l) (decoder_at ks l s) s n.number (omega (arith, h.0, length-decoders)) (ap (λ ks. is_kind ks n.kind s) kinds_of ∙ h.1) (ap (λ ks. count_below (is_kind ks n.kind) s) kinds_of ∙ h.2)
         (nth_decoders s h.0)
-
-    pub changes_none : (g : Decoder → Decoder) → SlotOf (is_kind ks n.kind) (length ks) n.number None → changed g n.kind n.number (decoders ks l) ≡ decoders ks l
-    changes_none g h = changed_missing g n.kind (decoders ks l) n.number (found_none h)
 
 -- ---- what was lent, and what came of it
 

@@ -1,5 +1,5 @@
 -- One packet for all decoders.
-use Rattle.std.proofs.Common.{◌≡◌, ℕ, ◌*◌, ◌<◌, ◌≤◌, Bool, true, false, cond, ◌&&◌, ◌||◌, ltb, leb, List, [], ◌∷◌, map, length, get_or, is_some, is_ok, Some, None, Ok, Err, Option, Result, sym, refl, ap, ◌∙◌, ap₂, ⊎_elim, arith}
+use Rattle.std.proofs.Common.{◌≡◌, ℕ, ◌*◌, ◌<◌, ◌≤◌, Bool, true, false, cond, ◌&&◌, ◌||◌, ltb, leb, List, [], ◌∷◌, map, length, get_or, is_some, Some, None, Ok, Err, Option, Result, sym, refl, ap, ◌∙◌, ap₂, ⊎_elim, arith}
 use Rattle.std.proofs.lemmas.Bool.{leb-true, le-leb, and_parts, and_from, cases_Bool, cond-true}
 use Rattle.fault.specs.declared.fault.Fault.{Fault}
 use Rattle.fault.specs.declared.refusal.Refusal.{Refusal}
@@ -215,9 +215,6 @@ module _ (s : ℕ) where
 
 pub is_enough_lem : {X : Type 0} (ks : List Kind) (k : Kind) (bank : List X) (cells : List ℕ) → count_of ks k ≤ length bank → 1024 * length ks ≤ length cells → is_enough ks k bank cells ≡ true
 is_enough_lem ks k bank cells a b = and_from _ _ (le-leb (count_of ks k) (length bank) a) (le-leb (1024 * length ks) (length cells) b)
-
-pub is_ok_lem : {A : Type 0} (b : Bool) (a : A) (r : Result A Fault) → r ≡ unless_short b a → b ≡ true → is_ok r ≡ true
-is_ok_lem b a r e t = ap is_ok (e ∙ cond-true b (Ok a) (Err lent_too_short) t)
 
 pub ok_is : {A : Type 0} (b : Bool) (a v : A) (r : Result A Fault) → r ≡ unless_short b a → b ≡ true → r ≡ Ok v → v ≡ a
 ok_is b a v r e t o = let q : Ok v ≡ Ok a = sym o ∙ e ∙ cond-true b (Ok a) (Err lent_too_short) t in cc

@@ -1,5 +1,5 @@
 -- A block in the middle: the records before the offset o have acted.
-use Rattle.std.proofs.Common.{◌≡◌, ℕ, ◌+◌, ◌<◌, ◌≤◌, Bool, true, false, List, map, length, Some, None, Ok, Err, Result, sym, refl, ap, ◌∙◌, subst, arith}
+use Rattle.std.proofs.Common.{◌≡◌, ℕ, ◌+◌, ◌≤◌, Bool, true, false, List, map, length, Some, None, Ok, Err, Result, sym, refl, ap, ◌∙◌, arith}
 use Rattle.fault.specs.declared.fault.Fault.{Fault}
 use Rattle.fault.specs.declared.refusal.Refusal.{Refusal}
 use Rattle.block.specs.declared.records.Carried.{Carried}
@@ -13,7 +13,9 @@ use Rattle.script.specs.declared.taken.Taken.{Taken}
 use Rattle.script.specs.Decoders.{Decoder}
 use Rattle.script.specs.Boards.{Lent, decoders, Rest}
 use Rattle.script.specs.Calls.{met, sent, noted, nothing_taken, counted, counts, after_records, with_fault, taken_from}
-use Rattle.roster.proofs.Decks.{rest_none, rest_then}
+use Rattle.roster.specs.declared.banks.BanksMut.{BanksMut}
+use Rattle.roster.specs.Held.{SameLenders}
+use Rattle.roster.proofs.Decks.{rest_then}
 use Rattle.roster.proofs.Sendings.{fill_met}
 
 abbrev pub packets_in : Taken → ℕ
@@ -40,6 +42,11 @@ counted_fault : (t : Taken) (ds : List Decoder) (o : ℕ) (th : Thing) → (coun
 counted_fault t ds o fill = refl
 counted_fault t ds o power_up = refl
 counted_fault t ds o (packet p) = noted_fault t o (sent ds p)
+
+-- ---- the lenders
+
+pub lenders_then : {b b' b'' : BanksMut} → SameLenders b b' → SameLenders b' b'' → SameLenders b b''
+lenders_then h k = record { mobiles = k.mobiles ∙ h.mobiles; basics = k.basics ∙ h.basics; extendeds = k.extendeds ∙ h.extendeds }
 
 -- ---- one record more
 
@@ -69,17 +76,10 @@ pub record Midway (ks : List Kind) (l l' : Lent) (b : List ℕ) (o : ℕ) (t : T
   pub few : packets_in t ≤ o
   pub inside : o ≤ length b
 
-pub midway_none : {ks : List Kind} {l : Lent} {b : List ℕ} {o : ℕ} {t : Taken} → o ≡ 0 → t ≡ nothing_taken → Midway ks l l b o t
-midway_none {ks} {l} {b} {o} {t} e q =
-    subst (λ o. Midway ks l l b o t) (sym e) (subst (λ t. Midway ks l l b 0 t) (sym q) (record { counts_are = refl; after_is = refl; fault_is = refl; no_fault = refl; rest = rest_none; few = omega arith; inside = omega arith }))
-
 module _ {ks : List Kind} {l l' : Lent} {b : List ℕ} {o : ℕ} {t : Taken} (m : Midway ks l l' b o t) where
   module _ (c : Carried) (e : found (Ok (Some c)) ≡ record_at b o) where
     is_found : Found b o (placed_in c)
     is_found = told_as b o (found (Ok (Some c))) e
-
-    pub record_few : packets_in t < length b
-    record_few = omega (arith, m.few, is_found.inside)
 
     pub midway_more : {l'' : Lent} {t' : Taken} → t' ≡ counted t (decoders ks l') c.offset (thing_in c.«record») → decoders ks l'' ≡ map (met (thing_in c.«record»)) (decoders ks l') → Rest ks l' l'' → Midway ks l l'' b c.next t'
     midway_more {l''} {t'} q a r =

@@ -1,21 +1,8 @@
 ghost use Rattle.std.specs.Prelude.{◌≡◌, ◌+◌, ◌^◌, ◌<◌};
-ghost use Rattle.script.specs.Calls.{noted, nothing_taken};
+ghost use Rattle.script.specs.Calls.{noted};
 
 use fault::{Fault, Refusal};
 use script::Taken;
-
-/// Before the first packet.
-pub(crate) fn nothing_taken() -> Taken
-    ensures { result ≡ nothing_taken }
-{
-    Taken {
-        heard: 0,
-        unheard: 0,
-        refused: 0,
-        refusal: None,
-        fault: None,
-    }
-}
 
 /// Counts one packet more, whose kind byte stands at the offset, by what came of it.
 pub(crate) fn note(taken: &mut Taken, offset: usize, outcome: Result<bool, Refusal>)

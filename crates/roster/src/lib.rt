@@ -3,13 +3,11 @@
 #![tactic(auto)]
 
 mod asking;
+pub mod banks;
 mod counting;
 mod lending;
-mod refusing;
 mod sending;
 mod setting;
 mod taking;
 
-pub use crate::asking::{binary_state, function, state, variable};
-pub use crate::setting::set_variable;
-pub use crate::taking::take;
+pub use crate::banks::{Banks, BanksMut};

@@ -1,5 +1,5 @@
 -- Every decoder is what it is alone.
-use Rattle.std.proofs.Common.{◌≡◌, ℕ, zero, suc, Bool, true, false, cond, List, [], ◌∷◌, map, take, Some, sym, refl, ap, ◌∙◌, arith}
+use Rattle.std.proofs.Common.{◌≡◌, ℕ, zero, suc, Bool, true, false, cond, List, [], ◌∷◌, map, take, Some, Result, sym, refl, ap, ◌∙◌, arith}
 use Rattle.std.specs.List.{slice_get}
 use Rattle.block.specs.Contents.{Thing}
 use Rattle.script.specs.declared.name.DecoderName.{DecoderName}
@@ -8,10 +8,11 @@ use Rattle.script.specs.declared.fit.Fit.TheVariants as fit
 use Rattle.script.specs.declared.call.Request.{Request}
 use Rattle.script.specs.declared.call.Call.{Call}
 use Rattle.script.specs.declared.call.Call.TheVariants.{Take, Ask}
+use Rattle.fault.specs.declared.fault.Fault.{Fault}
 use Rattle.script.specs.declared.answer.Answer.{Answer}
 use Rattle.script.specs.Decoders.{Decoder, kind_of, lives, decoder_of, request_answer, events_of}
 use Rattle.script.specs.Fittings.{fit_kind, fitted, fit_of, accepted}
-use Rattle.script.specs.Calls.{meets, met, given, after_records, after_call, after_all, answer_to, answers_to, asked}
+use Rattle.script.specs.Calls.{meets, met, given, after_records, after_call, after_all, answer_to, answers_to, about}
 use Rattle.script.specs.Boards.{Lent, decoders}
 use Rattle.script.specs.Promises.{in_records, is_named, in_call, events, alone_after, Ran, Alone, Apart}
 use Rattle.bank.specs.declared.kind.Kind.{Kind}
@@ -51,7 +52,7 @@ module _ (n : DecoderName) where
   asked_at d ds [] i q e at = let z : ◌≡◌ {A = ℕ} 0 1 = cc in absurd (omega arith)
   asked_at d ds (c ∷ cs) zero q e at =
       let is : c ≡ Ask n q = cc in
-      ap (λ c. Some (answer_to ds c)) is ∙ ap (λ o. Some (asked q o)) e ∙ ap (λ d. Some (request_answer d q)) (sym (lives_none d))
+      ap (λ c. Some (answer_to ds c)) is ∙ ap (λ o. Some (about (λ d. request_answer d q) o)) e ∙ ap (λ d. Some (request_answer d q)) (sym (lives_none d))
   asked_at d ds (c ∷ cs) (suc i) q e at =
       asked_at (lives d (in_call n d c)) (after_call ds c) cs i q (alone_call d ds c e) at
       ∙ ap (λ d. Some (request_answer d q)) (sym (lives_more d (in_call n d c) (events n (lives d (in_call n d c)) (take i cs))))
@@ -64,7 +65,7 @@ kind_fitted (fit.Extended a) = refl
 pub found-fitted : (n : DecoderName) (f : Fit) (fs : List Fit) → fit_of n fs ≡ Some f → decoder_of n (map fitted fs) ≡ Some (fitted f)
 found-fitted n f fs e = of_kind-map fitted fit_kind kind_of kind_fitted n.kind n.number fs ∙ ap (mapped fitted) e
 
-module _ {fits : List Fit} {calls : List Call} {l : Lent} {ks : List Kind} {l' : Lent} {numbers answers : List Answer} (r : Ran fits calls l ks l' numbers answers) where
+module _ {fits : List Fit} {calls : List Call} {l : Lent} {ks : List Kind} {l' : Lent} {numbers : List (Result ℕ Fault)} {answers : List (Result Answer Fault)} (r : Ran fits calls l ks l' numbers answers) where
   pub ends_alone : (n : DecoderName) (f : Fit) → fit_of n (accepted l fits) ≡ Some f → decoder_of n (decoders ks l') ≡ Some (alone_after n f calls)
   ends_alone n f e = ap (decoder_of n) r.decoders_are ∙ alone_calls n (fitted f) (map fitted (accepted l fits)) calls (found-fitted n f (accepted l fits) e)
 
@@ -74,7 +75,7 @@ module _ {fits : List Fit} {calls : List Call} {l : Lent} {ks : List Kind} {l' :
   pub is_alone : Alone fits calls l ks l' answers
   is_alone n f e = (ends_alone n f e, answers_alone n f e)
 
-pub is_apart : {fits : List Fit} {calls : List Call} {l : Lent} {ks : List Kind} {l' : Lent} {numbers answers : List Answer} → Ran fits calls l ks l' numbers answers → Apart fits calls l ks l' answers
+pub is_apart : {fits : List Fit} {calls : List Call} {l : Lent} {ks : List Kind} {l' : Lent} {numbers : List (Result ℕ Fault)} {answers : List (Result Answer Fault)} → Ran fits calls l ks l' numbers answers → Apart fits calls l ks l' answers
 is_apart {fits} {calls} {l} r fits₂ calls₂ l₂ ks₂ l₂' numbers₂ answers₂ r₂ same n f e =
     let e₂ : fit_of n (accepted l₂ fits₂) ≡ Some f = ap (fit_of n) same ∙ e in (
       λ alike. ends_alone r₂ n f e₂ ∙ ap (λ es. Some (lives (fitted f) es)) alike ∙ sym (ends_alone r n f e),

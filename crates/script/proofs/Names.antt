@@ -54,17 +54,6 @@ same_self Mobile = refl
 same_self Basic = refl
 same_self Extended = refl
 
-same_sym : (a b : Kind) → same_kind a b ≡ same_kind b a
-same_sym Mobile Mobile = refl
-same_sym Mobile Basic = refl
-same_sym Mobile Extended = refl
-same_sym Basic Mobile = refl
-same_sym Basic Basic = refl
-same_sym Basic Extended = refl
-same_sym Extended Mobile = refl
-same_sym Extended Basic = refl
-same_sym Extended Extended = refl
-
 -- ---- a change of one decoder
 
 module _ (g : Decoder → Decoder) (keeps : (d : Decoder) → kind_of (g d) ≡ kind_of d) where

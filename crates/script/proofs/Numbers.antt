@@ -8,8 +8,7 @@ use Rattle.bank.specs.Kinds.{count_of}
 use Rattle.script.specs.declared.fit.Fit.{Fit}
 use Rattle.script.specs.declared.call.Call.{Call}
 use Rattle.script.specs.declared.answer.Answer.{Answer}
-use Rattle.script.specs.declared.answer.Answer.TheVariants.{Fitted}
-use Rattle.script.specs.Decoders.{of_kind, answered, refused_by}
+use Rattle.script.specs.Decoders.{of_kind, refused_by}
 use Rattle.script.specs.Boards.{Lent, bank_size}
 use Rattle.script.specs.Fittings.{fit_kind, is_address, fitting, joining, accepted_after, fit_answers_after}
 use Rattle.script.specs.Promises.{Ran, Named}
@@ -35,18 +34,18 @@ module _ (l : Lent) where
       go (Ok i) = of_kind_more fit_kind k f (g ∷ []) j done e
       go (Err x) = e
 
-  joined : (done : List Fit) (f : Fit) (j : ℕ) (r : Result ℕ Fault) → r ≡ fitting l (map fit_kind done) f → answered Fitted r ≡ Fitted j → of_kind fit_kind (fit_kind f) j (joining done f r) ≡ Some f
+  joined : (done : List Fit) (f : Fit) (j : ℕ) (r : Result ℕ Fault) → r ≡ fitting l (map fit_kind done) f → r ≡ Ok j → of_kind fit_kind (fit_kind f) j (joining done f r) ≡ Some f
   joined done f j (Ok i) e at = let same : i ≡ j = cc in slot_last fit_kind (fit_kind f) f (same_self (fit_kind f)) done j (number_is l (map fit_kind done) f i (sym e) ∙ same)
   joined done f j (Err x) e at = let z : ◌≡◌ {A = ℕ} 0 1 = cc in absurd (omega arith)
 
-  named-after : (done fits : List Fit) (i j : ℕ) (f : Fit) → slice_get fits i ≡ Some f → slice_get (fit_answers_after l done fits) i ≡ Some (Fitted j) → of_kind fit_kind (fit_kind f) j (accepted_after l done fits) ≡ Some f
+  named-after : (done fits : List Fit) (i j : ℕ) (f : Fit) → slice_get fits i ≡ Some f → slice_get (fit_answers_after l done fits) i ≡ Some (Ok j) → of_kind fit_kind (fit_kind f) j (accepted_after l done fits) ≡ Some f
   named-after done [] i j f at is = let z : ◌≡◌ {A = ℕ} 0 1 = cc in absurd (omega arith)
   named-after done (g ∷ fits) zero j f at is =
       let same : g ≡ f = cc in
-      let ans : answered Fitted (fitting l (map fit_kind done) g) ≡ Fitted j = cc in
+      let ans : fitting l (map fit_kind done) g ≡ Ok j = cc in
       subst (λ h. of_kind fit_kind (fit_kind h) j (accepted_after l (joining done g (fitting l (map fit_kind done) g)) fits) ≡ Some h) same
       (kept (fit_kind g) j g (joining done g (fitting l (map fit_kind done) g)) fits (joined done g j (fitting l (map fit_kind done) g) refl ans))
   named-after done (g ∷ fits) (suc i) j f at is = named-after (joining done g (fitting l (map fit_kind done) g)) fits i j f at is
 
-pub is_named_lem : {fits : List Fit} {calls : List Call} {l : Lent} {ks : List Kind} {l' : Lent} {numbers answers : List Answer} → Ran fits calls l ks l' numbers answers → Named fits l numbers
+pub is_named_lem : {fits : List Fit} {calls : List Call} {l : Lent} {ks : List Kind} {l' : Lent} {numbers : List (Result ℕ Fault)} {answers : List (Result Answer Fault)} → Ran fits calls l ks l' numbers answers → Named fits l numbers
 is_named_lem {fits} {l = l} r i j f at is = named-after l [] fits i j f at (ap (λ ns. slice_get ns i) (sym r.numbers_are) ∙ is)

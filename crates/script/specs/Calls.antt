@@ -1,5 +1,5 @@
 -- The calls of a running board, by the decoders that it has.
-use Rattle.std.specs.Prelude.{ℕ, ◌+◌, Bool, true, false, cond, ◌||◌, List, [], ◌∷◌, map, length, Some, None, Ok, Err, Option, Result}
+use Rattle.std.specs.Prelude.{ℕ, ◌+◌, Bool, true, false, cond, ◌||◌, List, [], ◌∷◌, map, length, Some, None, Ok, Err, Option, Result, if◌then◌else◌}
 use Rattle.fault.specs.declared.fault.Fault.{Fault}
 use Rattle.fault.specs.declared.refusal.Refusal.{Refusal}
 use Rattle.fault.specs.declared.refusal.Refusal.TheVariants.{BlockLength, NoSuchDecoder, LentTooShort}
@@ -9,13 +9,15 @@ use Rattle.block.specs.Contents.Thing.{fill, power_up, packet}
 use Rattle.block.specs.Reading.{reading, carried, fault_of}
 use Rattle.decoder.specs.Alone.{Event}
 use Rattle.decoder.specs.Alone.Event.{heard, powered}
+use Rattle.bank.specs.declared.kind.Kind.{Kind}
 use Rattle.script.specs.declared.taken.Taken as taken
-use Rattle.script.specs.declared.call.Request.{Request}
 use Rattle.script.specs.declared.call.Call.{Call}
 use Rattle.script.specs.declared.call.Call.TheVariants.{Take, Ask}
 use Rattle.script.specs.declared.answer.Answer.{Answer}
-use Rattle.script.specs.declared.answer.Answer.TheVariants.{Fitted, Taken, Set, State, Variable, Function, BinaryState, Refused}
+use Rattle.script.specs.declared.answer.Answer.TheVariants.{Taken}
+use Rattle.script.specs.declared.name.DecoderName.{DecoderName}
 use Rattle.script.specs.Decoders.{Decoder, lives, hears, decoder_of, changed, refused_by, answered, request_answer, events_of}
+use Rattle.script.specs.Boards.{Lent, is_lent, decoders}
 
 -- ---- a record of a block
 
@@ -93,13 +95,9 @@ abbrev pub about : {A : Type 0} → (Decoder → Result A Fault) → Option Deco
 about f None = Err (refused_by NoSuchDecoder)
 about f (Some d) = f d
 
-abbrev pub asked : Request → Option Decoder → Answer
-asked q None = Refused (refused_by NoSuchDecoder)
-asked q (Some d) = request_answer d q
-
-abbrev pub answer_to : List Decoder → Call → Answer
+abbrev pub answer_to : List Decoder → Call → Result Answer Fault
 answer_to ds (Take b) = answered Taken (taking ds b.now)
-answer_to ds (Ask n q) = asked q (decoder_of n ds)
+answer_to ds (Ask n q) = about (λ d. request_answer d q) (decoder_of n ds)
 
 -- the decoders afterwards
 abbrev pub after_call : List Decoder → Call → List Decoder
@@ -112,13 +110,25 @@ abbrev pub after_all : List Decoder → List Call → List Decoder
 after_all ds [] = ds
 after_all ds (c ∷ cs) = after_all (after_call ds c) cs
 
-abbrev pub answers_to : List Decoder → List Call → List Answer
+abbrev pub answers_to : List Decoder → List Call → List (Result Answer Fault)
 answers_to ds [] = []
 answers_to ds (c ∷ cs) = answer_to ds c ∷ answers_to (after_call ds c) cs
 
 -- the answer of a board, unless too little was lent
 abbrev pub when_lent : {A : Type 0} → Bool → Result A Fault → Result A Fault
 when_lent enough r = cond enough r (Err (refused_by LentTooShort))
+
+module _ (ks : List Kind) (l : Lent) where
+  -- what a board answers that has slots of the kinds ks and is lent l: f of its decoders, or f of the one that is named
+  abbrev pub answer_by : {A : Type 0} → (List Decoder → Result A Fault) → Result A Fault
+  answer_by f = when_lent (is_lent ks l) (f (decoders ks l))
+
+  abbrev pub answer_of : {A : Type 0} → DecoderName → (Decoder → Result A Fault) → Result A Fault
+  answer_of n f = when_lent (is_lent ks l) (about f (decoder_of n (decoders ks l)))
+
+  -- and its decoders after a call that makes f of them
+  abbrev pub after_by : (List Decoder → List Decoder) → List Decoder
+  after_by f = if is_lent ks l then f (decoders ks l) else decoders ks l
 
 -- a place afterwards: what was answered, or as it was on a refusal
 abbrev pub place_after : {A : Type 0} → A → Result A Fault → A
@@ -129,20 +139,6 @@ place_after old (Err e) = old
 abbrev pub OnRefusal : {A : Type 0} → Result A Fault → Type 0 → Type 0
 OnRefusal (Ok x) P = Unit {0}
 OnRefusal (Err e) P = P
-
--- the same of an answer
-abbrev pub answer_when : Bool → Answer → Answer
-answer_when enough a = cond enough a (Refused (refused_by LentTooShort))
-
-abbrev pub OnRefused : Answer → Type 0 → Type 0
-OnRefused (Fitted j) P = Unit {0}
-OnRefused (Taken t) P = Unit {0}
-OnRefused Set P = Unit {0}
-OnRefused (State s) P = Unit {0}
-OnRefused (Variable x) P = Unit {0}
-OnRefused (Function b) P = Unit {0}
-OnRefused (BinaryState b) P = Unit {0}
-OnRefused (Refused e) P = P
 
 -- what holds of the answer of a call that is not refused, and the refusal of one that is
 abbrev pub OnSuccess : {A : Type 0} → Result A Fault → (A → Type 0) → Type 0

@@ -1,6 +1,7 @@
 -- A decoder of any kind: its record and its variables, what its events make of it, and what it answers.
 use Rattle.std.specs.Prelude.{ℕ, zero, suc, ◌-◌, ◌%◌, Bool, cond, ◌&&◌, List, [], ◌∷◌, is_some, Some, None, Ok, Err, Option, Result, nat_le}
-use Rattle.std.proofs.Common.{arith}
+use Rattle.std.proofs.Common.{lit<}
+use Rattle.std.proofs.lemmas.Nat.{mod_below}
 use Rattle.fault.specs.declared.fault.Fault.{Fault}
 use Rattle.fault.specs.declared.refusal.Refusal.{Refusal}
 use Rattle.fault.specs.declared.refusal.Refusal.TheVariants.{NoSuchDecoder, NumberOutOfRange}
@@ -88,7 +89,7 @@ is_variable n = nat_le 1 n && nat_le n 1024
 
 -- the variable of such a number
 abbrev pub cv_of : ℕ → CvNumber
-cv_of n = number_of (record { address = (n - 1) % 1024; bound = omega arith })
+cv_of n = number_of (record { address = (n - 1) % 1024; bound = mod_below (n - 1) 1024 (lit< tt) })
 
 -- an answer, or the refusal of a number that is out of its range
 abbrev pub in_range : {A : Type 0} → Option A → Result A Fault
@@ -113,15 +114,15 @@ binary_state_in n = on_mobile (λ x. in_range (state_at x.state.states.bits n))
 abbrev pub variable_in : ℕ → Decoder → Result ℕ Fault
 variable_in n d = if_variable n (variable (variables_of d) n)
 
--- an answer or a refusal
-abbrev pub answered : {A : Type 0} → (A → Answer) → Result A Fault → Answer
-answered f (Ok x) = f x
-answered f (Err e) = answer.Refused e
+-- what a call answers that is not refused
+abbrev pub answered : {A : Type 0} → (A → Answer) → Result A Fault → Result Answer Fault
+answered f (Ok x) = Ok (f x)
+answered f (Err e) = Err e
 
 -- what a decoder answers
-abbrev pub request_answer : Decoder → Request → Answer
+abbrev pub request_answer : Decoder → Request → Result Answer Fault
 request_answer d (Set n x) = answered (λ _. answer.Set) (if_variable {A = Unit {0}} n tt)
-request_answer d State = answer.State (state_of d)
+request_answer d State = Ok (answer.State (state_of d))
 request_answer d (Variable n) = answered answer.Variable (variable_in n d)
 request_answer d (Function n) = answered answer.Function (function_in n d)
 request_answer d (BinaryState n) = answered answer.BinaryState (binary_state_in n d)

@@ -10,9 +10,7 @@ use Rattle.bank.specs.Kinds.{count_of}
 use Rattle.script.specs.declared.name.DecoderName.{DecoderName}
 use Rattle.script.specs.declared.fit.Fit.{Fit}
 use Rattle.script.specs.declared.fit.Fit.TheVariants.{Mobile, Basic, Extended}
-use Rattle.script.specs.declared.answer.Answer.{Answer}
-use Rattle.script.specs.declared.answer.Answer.TheVariants.{Fitted}
-use Rattle.script.specs.Decoders.{Decoder, of_kind, refused_by, answered}
+use Rattle.script.specs.Decoders.{Decoder, of_kind, refused_by}
 use Rattle.script.specs.Decoders.Decoder.{mobile, basic, extended}
 use Rattle.script.specs.Boards.{Lent, bank_size}
 
@@ -60,11 +58,11 @@ accepted_after l done (f ∷ fs) = accepted_after l (joining done f (fitting l (
 abbrev pub accepted : Lent → List Fit → List Fit
 accepted l fs = accepted_after l [] fs
 
-abbrev pub fit_answers_after : Lent → List Fit → List Fit → List Answer
+abbrev pub fit_answers_after : Lent → List Fit → List Fit → List (Result ℕ Fault)
 fit_answers_after l done [] = []
-fit_answers_after l done (f ∷ fs) = answered Fitted (fitting l (map fit_kind done) f) ∷ fit_answers_after l (joining done f (fitting l (map fit_kind done) f)) fs
+fit_answers_after l done (f ∷ fs) = fitting l (map fit_kind done) f ∷ fit_answers_after l (joining done f (fitting l (map fit_kind done) f)) fs
 
-abbrev pub fit_answers : Lent → List Fit → List Answer
+abbrev pub fit_answers : Lent → List Fit → List (Result ℕ Fault)
 fit_answers l fs = fit_answers_after l [] fs
 
 -- the fitting of the decoder of a name

@@ -1,6 +1,7 @@
 -- What is promised of a whole run: fittings, the start, then blocks, settings and readings in any order.
-use Rattle.std.specs.Prelude.{◌≡◌, ℕ, Bool, cond, ◌&&◌, List, [], ◌∷◌, ◌++◌, map, reverse, take, Some, ◌==◌}
+use Rattle.std.specs.Prelude.{◌≡◌, ℕ, Bool, cond, ◌&&◌, List, [], ◌∷◌, ◌++◌, map, reverse, take, Some, Ok, Result, ◌==◌}
 use Rattle.std.specs.List.{slice_get}
+use Rattle.fault.specs.declared.fault.Fault.{Fault}
 use Rattle.block.specs.Contents.{Thing}
 use Rattle.state.specs.Bits.{bit_of}
 use Rattle.decoder.specs.Alone.{Event, variable, mobile_rules, basic_rules, extended_rules}
@@ -14,7 +15,6 @@ use Rattle.script.specs.declared.call.Request.{Request}
 use Rattle.script.specs.declared.call.Call.{Call}
 use Rattle.script.specs.declared.call.Call.TheVariants.{Take, Ask}
 use Rattle.script.specs.declared.answer.Answer.{Answer}
-use Rattle.script.specs.declared.answer.Answer.TheVariants.{Fitted}
 use Rattle.script.specs.Decoders.{Decoder, lives, decoder_of, variables_of, request_answer, events_of}
 use Rattle.script.specs.Decoders.Decoder.{mobile, basic, extended}
 use Rattle.script.specs.Boards.{Lent, decoders, Rest}
@@ -49,23 +49,23 @@ alone_after n f calls = lives (fitted f) (events n (fitted f) calls)
 
 -- the fittings and the calls were made with l lent: ks are the kinds in the slots, l' is what was lent afterwards,
 -- numbers and answers are what was answered
-pub record Ran (fits : List Fit) (calls : List Call) (l : Lent) (ks : List Kind) (l' : Lent) (numbers answers : List Answer) : Type 0 where
+pub record Ran (fits : List Fit) (calls : List Call) (l : Lent) (ks : List Kind) (l' : Lent) (numbers : List (Result ℕ Fault)) (answers : List (Result Answer Fault)) : Type 0 where
   pub kinds_are : ks ≡ map fit_kind (accepted l fits)
   pub numbers_are : numbers ≡ fit_answers l fits
   pub answers_are : answers ≡ answers_to (map fitted (accepted l fits)) calls
   pub decoders_are : decoders ks l' ≡ after_all (map fitted (accepted l fits)) calls
 
 -- a decoder has the name that its fitting answered
-abbrev pub Named : List Fit → Lent → List Answer → Type 0
+abbrev pub Named : List Fit → Lent → List (Result ℕ Fault) → Type 0
 Named fits l numbers =
     (i j : ℕ) (f : Fit)
     → slice_get fits i ≡ Some f
-    → slice_get numbers i ≡ Some (Fitted j)
+    → slice_get numbers i ≡ Some (Ok j)
     → fit_of (record { kind = fit_kind f; number = j }) (accepted l fits) ≡ Some f
 
 -- every fitted decoder is what it is alone, and each request to it is answered by what it then was alone;
 -- nothing here depends on what the banks and the memory held before
-abbrev pub Alone : List Fit → List Call → Lent → List Kind → Lent → List Answer → Type 0
+abbrev pub Alone : List Fit → List Call → Lent → List Kind → Lent → List (Result Answer Fault) → Type 0
 Alone fits calls l ks l' answers =
     (n : DecoderName) (f : Fit)
     → fit_of n (accepted l fits) ≡ Some f
@@ -74,9 +74,9 @@ Alone fits calls l ks l' answers =
 
 -- against every other run of equal accepted fittings, over any other memory: where a decoder's own events are alike,
 -- it ends alike, and where those before two equal requests to it are alike, the answers are
-abbrev pub Apart : List Fit → List Call → Lent → List Kind → Lent → List Answer → Type 0
+abbrev pub Apart : List Fit → List Call → Lent → List Kind → Lent → List (Result Answer Fault) → Type 0
 Apart fits calls l ks l' answers =
-    (fits₂ : List Fit) (calls₂ : List Call) (l₂ : Lent) (ks₂ : List Kind) (l₂' : Lent) (numbers₂ answers₂ : List Answer)
+    (fits₂ : List Fit) (calls₂ : List Call) (l₂ : Lent) (ks₂ : List Kind) (l₂' : Lent) (numbers₂ : List (Result ℕ Fault)) (answers₂ : List (Result Answer Fault))
     → Ran fits₂ calls₂ l₂ ks₂ l₂' numbers₂ answers₂
     → accepted l₂ fits₂ ≡ accepted l fits
     → (n : DecoderName) (f : Fit)
@@ -113,7 +113,7 @@ Persistent fits calls l ks l' =
 
 -- ---- all of it
 
-pub record Promised (fits : List Fit) (calls : List Call) (l : Lent) (ks : List Kind) (l' : Lent) (numbers answers : List Answer) : Type 0 where
+pub record Promised (fits : List Fit) (calls : List Call) (l : Lent) (ks : List Kind) (l' : Lent) (numbers : List (Result ℕ Fault)) (answers : List (Result Answer Fault)) : Type 0 where
   pub ran : Ran fits calls l ks l' numbers answers
   pub named : Named fits l numbers
   pub isolated : Alone fits calls l ks l' answers

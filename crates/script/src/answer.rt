@@ -1,5 +1,4 @@
 use crate::taken::Taken;
-use fault::Fault;
 use state::{BasicState, ExtendedState, MobileState};
 
 /// What a decoder holds while it has power, by its kind.
@@ -10,11 +9,9 @@ pub enum DecoderState {
     Extended(ExtendedState),
 }
 
-/// What came of a fitting or a call.
+/// What came of a call that was not refused.
 #[derive(Clone, Copy)]
 pub enum Answer {
-    /// The decoder is fitted, and has this number among those of its kind.
-    Fitted(usize),
     Taken(Taken),
     /// The variable is set.
     Set,
@@ -22,6 +19,4 @@ pub enum Answer {
     Variable(u8),
     Function(bool),
     BinaryState(bool),
-    /// Nothing was done.
-    Refused(Fault),
 }

@@ -4,7 +4,8 @@
 
 mod answer;
 mod call;
-mod fit;
+pub mod fit;
+mod kinds;
 mod name;
 mod taken;
 

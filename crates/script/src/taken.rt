@@ -1,7 +1,7 @@
 use fault::Fault;
 
 /// What came of the packets of a block.
-#[derive(Clone, Copy)]
+#[derive(Clone, Copy, Default)]
 pub struct Taken {
     /// How many packets some decoder heard.
     pub heard: usize,
