@@ -5,7 +5,7 @@
 mod lines;
 mod trial;
 
-use crate::lines::show;
+use crate::lines::Shown;
 use crate::trial::try_block;
 use input::read_up_to;
 
@@ -14,8 +14,7 @@ fn run(rt: &HostRuntime) -> anyhow::Result<()> {
     let mut bytes = [0u8; 513];
     let count = read_up_to(rt, &mut bytes)?;
     let answers = try_block(rt.alloc(), &bytes[0..count])?;
-    let text = show(rt.alloc(), &answers)?;
-    print!(rt; "{text}")?;
+    rt.print(Shown(&answers))?;
     Ok(())
 }
 

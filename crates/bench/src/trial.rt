@@ -1,9 +1,10 @@
 use anyhow::anyhow;
 use bank::Kind;
 use decoder::{Address, Basic, Extended, Mobile};
+use fault::Fault;
 use memory::ByteMemory;
+use roster::BanksMut;
 use script::{Answer, Call, DecoderName, Fit, Request};
-use state::{BasicState, ExtendedState, MobileState};
 use std::alloc::Global;
 
 /// Asks the first decoder of a kind for its state.
@@ -12,7 +13,7 @@ fn state_of(kind: Kind) -> Call<'static> {
 }
 
 /// What came of a block, and then the states of the three decoders.
-pub(crate) fn try_block(heap: Global, block: &[u8]) -> anyhow::Result<[Answer; 4]> {
+pub(crate) fn try_block(heap: Global, block: &[u8]) -> anyhow::Result<[Result<Answer, Fault>; 4]> {
     let fits = [
         Fit::Mobile(Address::Short(3)),
         Fit::Basic(1),
@@ -24,32 +25,23 @@ pub(crate) fn try_block(heap: Global, block: &[u8]) -> anyhow::Result<[Answer; 4
         state_of(Kind::Basic),
         state_of(Kind::Extended),
     ];
-    let mut mobiles = [Mobile {
-        state: MobileState::new(),
-    }];
-    let mut basics = [Basic {
-        address: 0,
-        state: BasicState::new(),
-    }];
-    let mut extendeds = [Extended {
-        address: 0,
-        state: ExtendedState::new(),
-    }];
+    let mut banks = BanksMut {
+        mobiles: &mut [Mobile::new()],
+        basics: &mut [Basic::new(0)],
+        extendeds: &mut [Extended::new(0)],
+    };
     let mut cells = vec![in heap; 0u8; 3072]?;
     let mut memory = ByteMemory::new(&mut cells);
-    let mut numbers = [Answer::Set; 3];
-    let mut answers = [Answer::Set; 4];
-    match board::run(
+    let mut numbers = [Ok(0); 3];
+    let mut answers = [Ok(Answer::Set); 4];
+    board::run(
         &fits,
         &calls,
-        &mut mobiles,
-        &mut basics,
-        &mut extendeds,
+        &mut banks,
         &mut memory,
         &mut numbers,
         &mut answers,
-    ) {
-        Ok(_) => Ok(answers),
-        Err(_) => Err(anyhow!("there are too few places for the answers")),
-    }
+    )
+    .map_err(|_| anyhow!("there are too few places for the answers"))?;
+    Ok(answers)
 }

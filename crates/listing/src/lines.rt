@@ -1,10 +1,9 @@
 use block::{Carried, Record};
 use reader::read;
-use std::alloc::{AllocError, Global};
-use words::InWords;
+use words::{Hex, InWords};
 
 /// What was listed so far.
-#[derive(Clone, Copy)]
+#[derive(Clone, Copy, Default)]
 pub struct Tally {
     accepted: usize,
     refused: usize,
@@ -12,26 +11,7 @@ pub struct Tally {
     fill: usize,
 }
 
-/// Bytes in hexadecimal, with a blank between two.
-fn hex(heap: Global, bytes: &[u8]) -> Result<String, AllocError> {
-    let mut text = String::new(heap);
-    for (i, byte) in bytes.iter().enumerate() {
-        let blank = if i == 0 { "" } else { " " };
-        text.push_str(format!(in heap; "{blank}{byte:02X}")?.as_str())?;
-    }
-    Ok(text)
-}
-
 impl Tally {
-    pub(crate) fn new() -> Tally {
-        Tally {
-            accepted: 0,
-            refused: 0,
-            power_ups: 0,
-            fill: 0,
-        }
-    }
-
     /// Prints one record and counts it.
     pub(crate) fn show(&mut self, rt: &HostRuntime, carried: Carried<'_>) -> anyhow::Result<()> {
         let offset = carried.offset;
@@ -50,7 +30,7 @@ impl Tally {
     }
 
     fn show_packet(&mut self, rt: &HostRuntime, offset: usize, bytes: &[u8]) -> anyhow::Result<()> {
-        let text = hex(rt.alloc(), bytes)?;
+        let text = Hex(bytes).to_string(rt.alloc())?;
         match read(bytes) {
             Ok(packet) => {
                 self.accepted = self.accepted.saturating_add(1);

@@ -16,7 +16,7 @@ fn list(rt: &HostRuntime, block: &[u8]) -> anyhow::Result<()> {
             return Ok(());
         }
     };
-    let mut tally = Tally::new();
+    let mut tally = Tally::default();
     for item in walk {
         match item {
             Ok(carried) => tally.show(rt, carried)?,

@@ -1,6 +1,6 @@
 use crate::files::read_bytes;
-use crate::trouble::Trouble;
-use std::alloc::{AllocError, AllocFailed, Global};
+use crate::trouble::{Cut, Trouble};
+use std::alloc::Global;
 
 /// The blocks of a capture, in the order in which they were handed over.
 #[derive(Drop)]
@@ -8,48 +8,27 @@ pub struct Capture {
     pub blocks: Vec<Vec<u8>>,
 }
 
-/// Where a capture is cut off.
-#[derive(Clone, Copy)]
-pub enum Cut {
-    WithinLength,
-    WithinBlock,
-}
-
-/// Why bytes are no capture.
-enum Flaw {
-    Cut(Cut),
-    Memory,
-}
-
-impl From<AllocError> for Flaw {
-    fn from(_error: AllocError) -> Flaw {
-        Flaw::Memory
-    }
-}
-
-impl<T: Drop> From<AllocFailed<T>> for Flaw {
-    fn from(_error: AllocFailed<T>) -> Flaw {
-        Flaw::Memory
-    }
+fn cut_off(heap: Global, path: &str, cut: Cut) -> Result<Trouble, Trouble> {
+    let path = String::from_str(heap, path)?;
+    Ok(Trouble::CutOff { path, cut })
 }
 
 /// Divides bytes into blocks. Each has its length before it in two bytes, the high one first.
-fn divide(heap: Global, bytes: &[u8]) -> Result<Vec<Vec<u8>>, Flaw> {
+fn divide(heap: Global, path: &str, bytes: &[u8]) -> Result<Vec<Vec<u8>>, Trouble> {
     let mut blocks = Vec::new(heap);
     let mut rest = bytes;
     while let [high, low, tail @ ..] = rest {
-        let length = 256 * usize::from(*high) + usize::from(*low);
-        if tail.len() < length {
-            return Err(Flaw::Cut(Cut::WithinBlock));
-        }
-        let (block, after) = tail.split_at(length);
+        let length = usize::from(u16::from_be_bytes([*high, *low]));
+        let (block, after) = tail
+            .split_at_checked(length)
+            .try_ok_or_else(|| cut_off(heap, path, Cut::WithinBlock))?;
         blocks.push(Vec::from_slice(heap, block)?)?;
         rest = after;
     }
     if rest.is_empty() {
         Ok(blocks)
     } else {
-        Err(Flaw::Cut(Cut::WithinLength))
+        Err(cut_off(heap, path, Cut::WithinLength)?)
     }
 }
 
@@ -57,13 +36,7 @@ impl Capture {
     /// Reads a capture from a file.
     pub(crate) fn read(rt: &HostRuntime, path: &str) -> Result<Capture, Trouble> {
         let bytes = read_bytes(rt, path)?;
-        match divide(rt.alloc(), bytes.as_slice()) {
-            Ok(blocks) => Ok(Capture { blocks }),
-            Err(Flaw::Cut(cut)) => {
-                let path = String::from_str(rt.alloc(), path)?;
-                Err(Trouble::CutOff { path, cut })
-            }
-            Err(Flaw::Memory) => Err(Trouble::Memory),
-        }
+        let blocks = divide(rt.alloc(), path, bytes.as_slice())?;
+        Ok(Capture { blocks })
     }
 }

@@ -18,9 +18,7 @@ impl Digest {
     }
 
     pub(crate) fn add(&mut self, bytes: &[u8]) {
-        for byte in bytes {
-            self.0 = step(self.0, *byte);
-        }
+        self.0 = bytes.iter().fold(self.0, |hash, byte| step(hash, *byte));
     }
 }
 

@@ -1,4 +1,3 @@
-use crate::banks::{new_basic, new_extended, new_mobile};
 use crate::capture::Capture;
 use crate::trouble::Trouble;
 use block::{Record, Walk};
@@ -6,6 +5,7 @@ use board::{Fitting, Running};
 use decoder::{Basic, Extended, Mobile};
 use fault::Fault;
 use memory::{ByteMemory, Memory};
+use roster::BanksMut;
 use script::Fit;
 use std::alloc::Global;
 
@@ -15,14 +15,12 @@ const WINDOW: usize = 1024;
 /// Performs one record, given as a block of its own, and answers whether it is an event of some decoder.
 fn is_event<M: Memory>(
     board: &Running,
-    mobiles: &mut [Mobile],
-    basics: &mut [Basic],
-    extendeds: &mut [Extended],
+    banks: &mut BanksMut<'_>,
     memory: &mut M,
     record: Record<'_>,
     bytes: &[u8],
 ) -> Result<bool, Fault> {
-    let taken = board.take(mobiles, basics, extendeds, memory, bytes)?;
+    let taken = board.take(banks, memory, bytes)?;
     match record {
         Record::Fill => Ok(false),
         Record::PowerUp => Ok(true),
@@ -33,9 +31,7 @@ fn is_event<M: Memory>(
 /// Performs a block record by record, and adds those that are events. A block of a refused length has none.
 fn add_events<M: Memory>(
     board: &Running,
-    mobiles: &mut [Mobile],
-    basics: &mut [Basic],
-    extendeds: &mut [Extended],
+    banks: &mut BanksMut<'_>,
     memory: &mut M,
     block: &[u8],
     events: &mut Vec<u8>,
@@ -52,7 +48,7 @@ fn add_events<M: Memory>(
             break;
         };
         let record = carried.record;
-        if is_event(board, mobiles, basics, extendeds, memory, record, bytes)? {
+        if is_event(board, banks, memory, record, bytes)? {
             events.extend_from_slice(bytes)?;
         }
     }
@@ -62,28 +58,18 @@ fn add_events<M: Memory>(
 /// Fits one decoder, and performs a capture on it alone.
 fn events_alone<M: Memory>(
     heap: Global,
-    mobiles: &mut [Mobile],
-    basics: &mut [Basic],
-    extendeds: &mut [Extended],
+    banks: &mut BanksMut<'_>,
     memory: &mut M,
     fit: Fit,
     capture: &Capture,
 ) -> Result<Vec<u8>, Trouble> {
     let mut board = Fitting::new();
-    board.fit(mobiles, basics, extendeds, memory, fit)?;
+    board.fit(banks, memory, fit)?;
     let board = board.start();
     let mut events = Vec::new(heap);
     for block in capture.blocks.iter() {
         let block = block.as_slice();
-        add_events(
-            &board,
-            mobiles,
-            basics,
-            extendeds,
-            memory,
-            block,
-            &mut events,
-        )?;
+        add_events(&board, banks, memory, block, &mut events)?;
     }
     Ok(events)
 }
@@ -92,18 +78,12 @@ fn events_alone<M: Memory>(
 ///
 /// They are found on a board on which it is alone.
 pub(crate) fn own_events(heap: Global, fit: Fit, capture: &Capture) -> Result<Vec<u8>, Trouble> {
-    let mut mobiles = [new_mobile()];
-    let mut basics = [new_basic()];
-    let mut extendeds = [new_extended()];
+    let mut banks = BanksMut {
+        mobiles: &mut [Mobile::new()],
+        basics: &mut [Basic::new(0)],
+        extendeds: &mut [Extended::new(0)],
+    };
     let mut cells = vec![in heap; 0u8; WINDOW]?;
     let mut memory = ByteMemory::new(cells.as_mut_slice());
-    events_alone(
-        heap,
-        &mut mobiles,
-        &mut basics,
-        &mut extendeds,
-        &mut memory,
-        fit,
-        capture,
-    )
+    events_alone(heap, &mut banks, &mut memory, fit, capture)
 }

@@ -1,4 +1,4 @@
-use crate::line::{Line, Unread};
+use crate::line::Line;
 use crate::trouble::Trouble;
 use script::Fit;
 use std::alloc::Global;
@@ -13,13 +13,11 @@ pub struct Wanted {
 /// Reads the text of a fittings file: a script of `fit` lines alone.
 pub(crate) fn read_fittings(heap: Global, text: &str) -> Result<Vec<Wanted>, Trouble> {
     let mut fittings = Vec::new(heap);
-    for (i, text) in text.lines().enumerate() {
-        let line = i.saturating_add(1);
-        match Line::read(heap, text) {
-            Ok(Line::Fit(fit)) => fittings.push(Wanted { line, fit })?,
-            Err(Unread::Empty) => {}
-            Err(Unread::Memory) => return Err(Trouble::Memory),
-            _ => return Err(Trouble::BadLine(line)),
+    for (line, text) in (1..).zip(text.lines()) {
+        match Line::read(heap, line, text)? {
+            Some(Line::Fit(fit)) => fittings.push(Wanted { line, fit })?,
+            Some(_other) => return Err(Trouble::BadLine(line)),
+            None => {}
         }
     }
     Ok(fittings)

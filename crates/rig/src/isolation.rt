@@ -5,11 +5,11 @@ use crate::events::own_events;
 use crate::fittings::Wanted;
 use crate::names::Named;
 use crate::play::Played;
-use crate::portrait::Portrait;
 use crate::trouble::Trouble;
 use script::{DecoderName, Fit};
 use std::alloc::Global;
 use std::fmt;
+use std::process::ExitCode;
 
 /// How a decoder compares after two captures.
 #[derive(Clone, Copy)]
@@ -58,14 +58,7 @@ fn has_same_events(
     Ok(first.as_slice() == second.as_slice())
 }
 
-fn same_ends(one: &[Portrait], other: &[Portrait], slot: usize) -> bool {
-    match (one.get(slot), other.get(slot)) {
-        (Some(first), Some(second)) => first.difference(second).is_none(),
-        _ => false,
-    }
-}
-
-/// Prints for each decoder whether its events and its end were alike after two captures.
+/// Prints for each decoder whether its events and its end were alike after two captures. Isolation that is broken is a failure.
 pub(crate) fn compare_ends(
     rt: &HostRuntime,
     fittings: &[Wanted],
@@ -73,23 +66,19 @@ pub(crate) fn compare_ends(
     other_capture: &Capture,
     one: &Played,
     other: &Played,
-) -> Result<(), Trouble> {
-    let mut broken = false;
-    for (slot, name) in one.names.iter().enumerate() {
-        let Some(wanted) = fittings.get(slot) else {
-            break;
-        };
+) -> Result<ExitCode, Trouble> {
+    let mut status = ExitCode::SUCCESS;
+    let ends = one.portraits.iter().zip(other.portraits.iter());
+    for (wanted, (first, second)) in fittings.iter().zip(ends) {
         let verdict = Verdict {
-            name: *name,
+            name: first.name,
             same_events: has_same_events(rt.alloc(), wanted.fit, capture, other_capture)?,
-            same_end: same_ends(one.portraits.as_slice(), other.portraits.as_slice(), slot),
+            same_end: first.difference(second).is_none(),
         };
         println!(rt; "{verdict}")?;
-        broken = broken || verdict.breaks_isolation();
+        if verdict.breaks_isolation() {
+            status = ExitCode::FAILURE;
+        }
     }
-    if broken {
-        Err(Trouble::Printed)
-    } else {
-        Ok(())
-    }
+    Ok(status)
 }

@@ -1,8 +1,12 @@
-use crate::numbers::hex_byte;
-use crate::words::Words;
+ghost use Rattle.std.specs.Prelude.{◌≤◌, IfSome};
+
+use crate::banks::{CELLS, RECORDS};
+use crate::numbers::{decimal, hex_byte};
+use crate::trouble::Trouble;
+use bank::Kind;
 use decoder::Address;
 use script::{DecoderName, Fit, Request};
-use std::alloc::{AllocError, AllocFailed, Global};
+use std::alloc::{AllocError, Global};
 
 /// How much calls are lent: the first records of each bank and the first cells of the memory.
 #[derive(Clone, Copy)]
@@ -24,121 +28,102 @@ pub enum Line {
     Ask(DecoderName, Request),
 }
 
-/// Why a line gives nothing to perform.
-#[derive(Drop)]
-pub enum Unread {
-    /// It has no word.
-    Empty,
-    /// It is no call.
-    Bad,
-    /// There is no memory left.
-    Memory,
+/// The words of a line before its comment, if there is one. Only blanks and tabs divide them.
+fn words_of(heap: Global, line: &str) -> Result<Vec<&str>, AllocError> {
+    let text = line.split_once('#').map_or(line, |(text, _)| text);
+    text.split([' ', '\t'])
+        .filter(|word| !word.is_empty())
+        .collect(heap)
 }
 
-impl From<AllocError> for Unread {
-    fn from(_error: AllocError) -> Unread {
-        Unread::Memory
-    }
+/// A number up to `most`.
+fn up_to(most: usize, word: &str) -> Option<usize>
+    ensures { IfSome result (λ n. n ≤ most) }
+{
+    decimal(word).filter(|number| *number <= most)
 }
 
-impl<T: Drop> From<AllocFailed<T>> for Unread {
-    fn from(_error: AllocFailed<T>) -> Unread {
-        Unread::Memory
-    }
+fn name(kind: &str, number: &str) -> Option<DecoderName> {
+    let kind = match kind {
+        "mobile" => Kind::Mobile,
+        "basic" => Kind::Basic,
+        "extended" => Kind::Extended,
+        _ => return None,
+    };
+    let number = decimal::<u16>(number)?;
+    Some(DecoderName {
+        kind,
+        number: usize::from(number),
+    })
 }
 
-fn lending(words: &mut Words<'_>) -> Option<Line> {
-    let mobiles = usize::from(words.number(32)?);
-    let basics = usize::from(words.number(32)?);
-    let extendeds = usize::from(words.number(32)?);
-    let cells = usize::from(words.number(32768)?);
-    Some(Line::Lend(Lent {
-        mobiles,
-        basics,
-        extendeds,
-        cells,
-    }))
-}
-
-fn mobile_address(words: &mut Words<'_>) -> Option<Address> {
-    match words.next()? {
-        "short" => Some(Address::Short(words.byte()?)),
-        "long" => Some(Address::Long(words.number(65535)?)),
+fn fitting(words: &[&str]) -> Option<Fit> {
+    match words {
+        ["mobile", "short", address] => Some(Fit::Mobile(Address::Short(decimal(address)?))),
+        ["mobile", "long", address] => Some(Fit::Mobile(Address::Long(decimal(address)?))),
+        ["basic", address] => Some(Fit::Basic(decimal(address)?)),
+        ["extended", address] => Some(Fit::Extended(decimal(address)?)),
         _ => None,
     }
 }
 
-fn fitting(words: &mut Words<'_>) -> Option<Line> {
-    let fit = match words.next()? {
-        "mobile" => Fit::Mobile(mobile_address(words)?),
-        "basic" => Fit::Basic(words.number(65535)?),
-        "extended" => Fit::Extended(words.number(65535)?),
+/// What is asked of one decoder.
+fn request(words: &[&str]) -> Option<Line> {
+    let (kind, number, request) = match words {
+        ["set", kind, number, variable, value] => {
+            let variable = decimal(variable)?;
+            let value = decimal(value)?;
+            (kind, number, Request::Set { variable, value })
+        }
+        ["state", kind, number] => (kind, number, Request::State),
+        ["variable", kind, number, variable] => {
+            (kind, number, Request::Variable(decimal(variable)?))
+        }
+        ["function", kind, number, function] => {
+            (kind, number, Request::Function(decimal(function)?))
+        }
+        ["binary", kind, number, state] => { (kind, number, Request::BinaryState(decimal(state)?)) }
         _ => return None,
     };
-    Some(Line::Fit(fit))
+    Some(Line::Ask(name(kind, number)?, request))
 }
 
-fn setting(words: &mut Words<'_>) -> Option<Line> {
-    let name = words.name()?;
-    let variable = words.number(65535)?;
-    let value = words.byte()?;
-    Some(Line::Ask(name, Request::Set { variable, value }))
+fn lending(mobiles: &str, basics: &str, extendeds: &str, cells: &str) -> Option<Line> {
+    Some(Line::Lend(Lent {
+        mobiles: up_to(RECORDS, mobiles)?,
+        basics: up_to(RECORDS, basics)?,
+        extendeds: up_to(RECORDS, extendeds)?,
+        cells: up_to(CELLS, cells)?,
+    }))
 }
 
-/// A request whose first word is this one.
-fn reading(word: &str, words: &mut Words<'_>) -> Option<Line> {
-    let name = words.name()?;
-    let request = match word {
-        "state" => Request::State,
-        "variable" => Request::Variable(words.number(65535)?),
-        "function" => Request::Function(words.number(65535)?),
-        "binary" => Request::BinaryState(words.number(65535)?),
-        _ => return None,
-    };
-    Some(Line::Ask(name, request))
+/// The bytes that words name, if each names one.
+fn block(heap: Global, words: &[&str]) -> Result<Option<Vec<u8>>, AllocError> {
+    words.iter().map(|word| hex_byte(word)).collect(heap)
 }
 
-/// The bytes of all words that are left.
-fn block(heap: Global, words: &mut Words<'_>) -> Result<Vec<u8>, Unread> {
-    let mut bytes = Vec::new(heap);
-    for _ in 0..usize::MAX {
-        let Some(word) = words.next() else {
-            break;
-        };
-        let Some(byte) = hex_byte(word) else {
-            return Err(Unread::Bad);
-        };
-        bytes.push(byte)?;
+/// The call that the words are, if they are one.
+fn call(heap: Global, words: &[&str]) -> Result<Option<Line>, AllocError> {
+    match words {
+        ["new"] => Ok(Some(Line::New)),
+        ["start"] => Ok(Some(Line::Start)),
+        ["lend", mobiles, basics, extendeds, cells] => {
+            Ok(lending(mobiles, basics, extendeds, cells))
+        }
+        ["fit", fit @ ..] => Ok(fitting(fit).map(Line::Fit)),
+        ["take", bytes @ ..] => Ok(block(heap, bytes)?.map(Line::Take)),
+        _ => Ok(request(words)),
     }
-    Ok(bytes)
-}
-
-/// What the words ask for. A word too many is left to the caller to see.
-fn asked(heap: Global, words: &mut Words<'_>) -> Result<Line, Unread> {
-    let Some(word) = words.next() else {
-        return Err(Unread::Empty);
-    };
-    let line = match word {
-        "new" => Some(Line::New),
-        "lend" => lending(words),
-        "fit" => fitting(words),
-        "start" => Some(Line::Start),
-        "take" => Some(Line::Take(block(heap, words)?)),
-        "set" => setting(words),
-        _ => reading(word, words),
-    };
-    line.ok_or(Unread::Bad)
 }
 
 impl Line {
-    /// Reads a line of a script.
-    pub(crate) fn read(heap: Global, text: &str) -> Result<Line, Unread> {
-        let mut words = Words::new(text);
-        let line = asked(heap, &mut words)?;
-        if words.is_at_end() {
-            Ok(line)
-        } else {
-            Err(Unread::Bad)
+    /// Reads a line of a script, if it has a word.
+    pub(crate) fn read(heap: Global, number: usize, text: &str) -> Result<Option<Line>, Trouble> {
+        let words = words_of(heap, text)?;
+        if words.is_empty() {
+            return Ok(None);
         }
+        let line = call(heap, words.as_slice())?.ok_or(Trouble::BadLine(number))?;
+        Ok(Some(line))
     }
 }

@@ -5,8 +5,10 @@ use crate::states::InWords;
 use fault::Fault;
 use script::{DecoderName, DecoderState, Taken};
 use std::fmt;
+use thiserror::Error;
+use words::switched;
 
-/// What came of a line of a script. It prints as the line's answer.
+/// What a line of a script did. It prints as the line's answer.
 #[derive(Clone, Copy)]
 pub enum Outcome {
     NewBoard,
@@ -19,15 +21,19 @@ pub enum Outcome {
     Variable { number: u16, value: u8 },
     Function { number: u16, on: bool },
     BinaryState { number: u16, on: bool },
-    Refused(Fault),
-    /// The call is one of a running board.
-    StartFirst,
-    /// The call is one of a board that is being fitted.
-    BeginNewBoard,
 }
 
-fn switched(on: bool) -> &'static str {
-    if on { "on" } else { "off" }
+/// Why a line did nothing. It prints as the line's answer, too.
+#[derive(Clone, Copy, Debug, Error)]
+pub enum NotPerformed {
+    #[error("refused {}", Told(*.0))]
+    Refused(#[from] Fault),
+    /// The call is one of a running board.
+    #[error("not now: start first")]
+    StartFirst,
+    /// The call is one of a board that is being fitted.
+    #[error("not now: begin a new board")]
+    BeginNewBoard,
 }
 
 fn lent<W: fmt::Write>(lent: Lent, f: &mut fmt::Formatter<W>) -> fmt::Result {
@@ -77,12 +83,6 @@ impl fmt::Display for Outcome {
             Outcome::BinaryState { number, on } => {
                 write!(f, "binary state {number} {}", switched(on))
             }
-            Outcome::Refused(fault) => {
-                let fault = Told(fault);
-                write!(f, "refused {fault}")
-            }
-            Outcome::StartFirst => write!(f, "not now: start first"),
-            Outcome::BeginNewBoard => write!(f, "not now: begin a new board"),
         }
     }
 }

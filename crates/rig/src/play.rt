@@ -1,21 +1,20 @@
-use crate::banks::{RECORDS, new_basic, new_extended, new_mobile};
+use crate::banks::Records;
 use crate::capture::Capture;
 use crate::fittings::Wanted;
-use crate::names::kind_of;
 use crate::portrait::Portrait;
 use crate::progress::Progress;
 use crate::tally::Tally;
 use crate::trouble::Trouble;
 use board::{Fitting, Running};
-use decoder::{Basic, Extended, Mobile};
 use memory::Memory;
+use roster::{Banks, BanksMut};
 use script::DecoderName;
 use std::alloc::Global;
 
 /// What a board made of a capture.
 #[derive(Drop)]
 pub struct Played {
-    pub names: Vec<DecoderName>,
+    /// Its decoders, in the order of fitting.
     pub portraits: Vec<Portrait>,
     pub tally: Tally,
 }
@@ -24,21 +23,19 @@ pub struct Played {
 fn fit_all<M: Memory>(
     heap: Global,
     board: &mut Fitting,
-    mobiles: &mut [Mobile],
-    basics: &mut [Basic],
-    extendeds: &mut [Extended],
+    banks: &mut BanksMut<'_>,
     memory: &mut M,
     fittings: &[Wanted],
 ) -> Result<Vec<DecoderName>, Trouble> {
     let mut names = Vec::new(heap);
     for Wanted { line, fit } in fittings.iter().copied() {
-        match board.fit(mobiles, basics, extendeds, memory, fit) {
-            Ok(number) => names.push(DecoderName {
-                kind: kind_of(fit),
-                number,
-            })?,
-            Err(fault) => return Err(Trouble::Unfitted { line, fault }),
-        }
+        let number = board
+            .fit(banks, memory, fit)
+            .map_err(|fault| Trouble::Unfitted { line, fault })?;
+        names.push(DecoderName {
+            kind: fit.kind(),
+            number,
+        })?;
     }
     Ok(names)
 }
@@ -47,19 +44,17 @@ fn fit_all<M: Memory>(
 fn take_all<M: Memory>(
     rt: &HostRuntime,
     board: &Running,
-    mobiles: &mut [Mobile],
-    basics: &mut [Basic],
-    extendeds: &mut [Extended],
+    banks: &mut BanksMut<'_>,
     memory: &mut M,
     capture: &Capture,
 ) -> Tally {
-    let mut tally = Tally::new();
+    let mut tally = Tally::default();
     let progress = Progress::new(rt, capture.blocks.len());
     for (done, block) in capture.blocks.iter().enumerate() {
         // A report that cannot be written is no reason to stop.
         let _ = progress.tell(rt, done);
         let block = block.as_slice();
-        let result = board.take(mobiles, basics, extendeds, memory, block);
+        let result = board.take(banks, memory, block);
         tally.add(block, result);
     }
     let _ = progress.close(rt);
@@ -70,15 +65,13 @@ fn take_all<M: Memory>(
 fn portray_all<M: Memory>(
     heap: Global,
     board: &Running,
-    mobiles: &[Mobile],
-    basics: &[Basic],
-    extendeds: &[Extended],
+    banks: Banks<'_>,
     memory: &mut M,
     names: &[DecoderName],
 ) -> Result<Vec<Portrait>, Trouble> {
     let mut portraits = Vec::new(heap);
     for name in names {
-        let portrait = Portrait::new(heap, board, mobiles, basics, extendeds, memory, *name)?;
+        let portrait = Portrait::new(heap, board, banks, memory, *name)?;
         portraits.push(portrait)?;
     }
     Ok(portraits)
@@ -86,34 +79,18 @@ fn portray_all<M: Memory>(
 
 fn play_on<M: Memory>(
     rt: &HostRuntime,
-    mobiles: &mut [Mobile],
-    basics: &mut [Basic],
-    extendeds: &mut [Extended],
+    banks: &mut BanksMut<'_>,
     memory: &mut M,
     fittings: &[Wanted],
     capture: &Capture,
 ) -> Result<Played, Trouble> {
     let heap = rt.alloc();
     let mut board = Fitting::new();
-    let names = fit_all(
-        heap, &mut board, mobiles, basics, extendeds, memory, fittings,
-    )?;
+    let names = fit_all(heap, &mut board, banks, memory, fittings)?;
     let board = board.start();
-    let tally = take_all(rt, &board, mobiles, basics, extendeds, memory, capture);
-    let portraits = portray_all(
-        heap,
-        &board,
-        mobiles,
-        basics,
-        extendeds,
-        memory,
-        names.as_slice(),
-    )?;
-    Ok(Played {
-        names,
-        portraits,
-        tally,
-    })
+    let tally = take_all(rt, &board, banks, memory, capture);
+    let portraits = portray_all(heap, &board, banks.shared(), memory, names.as_slice())?;
+    Ok(Played { portraits, tally })
 }
 
 /// Fits a new board over a memory, takes a capture on it, and portrays its decoders.
@@ -123,17 +100,6 @@ pub(crate) fn play<M: Memory>(
     fittings: &[Wanted],
     capture: &Capture,
 ) -> Result<Played, Trouble> {
-    let heap = rt.alloc();
-    let mut mobiles = vec![in heap; new_mobile(); RECORDS]?;
-    let mut basics = vec![in heap; new_basic(); RECORDS]?;
-    let mut extendeds = vec![in heap; new_extended(); RECORDS]?;
-    play_on(
-        rt,
-        mobiles.as_mut_slice(),
-        basics.as_mut_slice(),
-        extendeds.as_mut_slice(),
-        memory,
-        fittings,
-        capture,
-    )
+    let mut records = Records::new(rt.alloc())?;
+    play_on(rt, &mut records.banks(), memory, fittings, capture)
 }

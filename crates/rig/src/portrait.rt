@@ -1,10 +1,9 @@
 use crate::digest::Digest;
-use crate::states::steps_of;
 use crate::trouble::Trouble;
 use bank::Kind;
 use board::Running;
-use decoder::{Basic, Extended, Mobile};
 use memory::Memory;
+use roster::Banks;
 use script::{DecoderName, DecoderState};
 use state::{BasicState, ExtendedState, MobileState, Reply, Speed, WaitingWrite};
 use std::alloc::Global;
@@ -54,9 +53,11 @@ struct Part {
 /// All that a decoder is, field by field.
 #[derive(Drop)]
 pub struct Portrait {
+    pub name: DecoderName,
     parts: Vec<Part>,
 }
 
+/// The number that a kind has in the digest.
 fn kind_byte(kind: Kind) -> u8 {
     match kind {
         Kind::Mobile => 0,
@@ -69,15 +70,15 @@ fn speed_bytes(speed: Speed) -> [u8; 2] {
     match speed {
         Speed::Stop => [0, 0],
         Speed::EmergencyStop => [1, 0],
-        Speed::Running(step) => [steps_of(step.scale()), step.number()],
+        Speed::Running(step) => [step.scale().steps(), step.number()],
     }
 }
 
-fn reply_bytes(reply: Reply) -> [u8; 2] {
+fn reply_bytes(reply: Option<Reply>) -> [u8; 2] {
     match reply {
-        Reply::None => [0, 0],
-        Reply::Acknowledgment => [1, 0],
-        Reply::Value(value) => [2, value],
+        None => [0, 0],
+        Some(Reply::Acknowledgment) => [1, 0],
+        Some(Reply::Value(value)) => [2, value],
     }
 }
 
@@ -92,11 +93,11 @@ fn waiting_bytes(waiting: &Option<WaitingWrite>) -> [u8; 7] {
 }
 
 /// The address that an accessory decoder was fitted with.
-fn fitted_address(basics: &[Basic], extendeds: &[Extended], name: DecoderName) -> Option<u16> {
+fn fitted_address(banks: Banks<'_>, name: DecoderName) -> Option<u16> {
     match name.kind {
         Kind::Mobile => None,
-        Kind::Basic => Some(basics.get(name.number)?.address),
-        Kind::Extended => Some(extendeds.get(name.number)?.address),
+        Kind::Basic => Some(banks.basics.get(name.number)?.address),
+        Kind::Extended => Some(banks.extendeds.get(name.number)?.address),
     }
 }
 
@@ -108,10 +109,7 @@ impl Portrait {
     }
 
     fn add_switches(&mut self, heap: Global, field: Field, on: &[bool]) -> Result<(), Trouble> {
-        let mut bytes = Vec::new(heap);
-        for switch in on {
-            bytes.push(u8::from(*switch))?;
-        }
+        let bytes = on.iter().map(|switch| u8::from(*switch)).collect(heap)?;
         self.parts.push(Part { field, bytes })?;
         Ok(())
     }
@@ -121,7 +119,7 @@ impl Portrait {
         &mut self,
         heap: Global,
         waiting: &Option<WaitingWrite>,
-        reply: Reply,
+        reply: Option<Reply>,
     ) -> Result<(), Trouble> {
         self.add(heap, Field::Waiting, &waiting_bytes(waiting))?;
         self.add(heap, Field::Reply, &reply_bytes(reply))
@@ -157,23 +155,22 @@ impl Portrait {
     pub(crate) fn new<M: Memory>(
         heap: Global,
         board: &Running,
-        mobiles: &[Mobile],
-        basics: &[Basic],
-        extendeds: &[Extended],
+        banks: Banks<'_>,
         memory: &mut M,
         name: DecoderName,
     ) -> Result<Portrait, Trouble> {
         let mut portrait = Portrait {
+            name,
             parts: Vec::new(heap),
         };
         portrait.add(heap, Field::Kind, &[kind_byte(name.kind)])?;
-        if let Some(address) = fitted_address(basics, extendeds, name) {
+        if let Some(address) = fitted_address(banks, name) {
             portrait.add(heap, Field::Address, &address.to_be_bytes())?;
         }
         let mut state = DecoderState::Extended(ExtendedState::new());
-        board.state(mobiles, basics, extendeds, memory, name, &mut state)?;
+        board.state(banks, memory, name, &mut state)?;
         portrait.add_state(heap, &state)?;
-        let bytes = variables(heap, board, mobiles, basics, extendeds, memory, name)?;
+        let bytes = variables(heap, board, banks, memory, name)?;
         portrait.parts.push(Part {
             field: Field::Variables,
             bytes,
@@ -183,12 +180,11 @@ impl Portrait {
 
     /// The first field in which two decoders differ.
     pub(crate) fn difference(&self, other: &Portrait) -> Option<Field> {
-        for (one, two) in self.parts.iter().zip(other.parts.iter()) {
-            if one.bytes.as_slice() != two.bytes.as_slice() {
-                return Some(one.field);
-            }
-        }
-        None
+        self.parts
+            .iter()
+            .zip(other.parts.iter())
+            .find(|(one, two)| one.bytes.as_slice() != two.bytes.as_slice())
+            .map(|(one, _)| one.field)
     }
 
     pub(crate) fn add_to(&self, digest: &mut Digest) {
@@ -201,15 +197,13 @@ impl Portrait {
 fn variables<M: Memory>(
     heap: Global,
     board: &Running,
-    mobiles: &[Mobile],
-    basics: &[Basic],
-    extendeds: &[Extended],
+    banks: Banks<'_>,
     memory: &mut M,
     name: DecoderName,
 ) -> Result<Vec<u8>, Trouble> {
     let mut values = Vec::new(heap);
     for number in 1..=1024u16 {
-        let value = board.variable(mobiles, basics, extendeds, memory, name, number)?;
+        let value = board.variable(banks, memory, name, number)?;
         values.push(value)?;
     }
     Ok(values)

@@ -4,7 +4,7 @@ use script::Taken;
 use std::fmt;
 
 /// What came of the blocks of a capture.
-#[derive(Clone, Copy)]
+#[derive(Clone, Copy, Default)]
 pub struct Tally {
     heard: usize,
     unheard: usize,
@@ -16,24 +16,10 @@ pub struct Tally {
 
 /// Whether the records of a block end in fill, without a fault.
 fn ends_in_fill(block: &[u8]) -> bool {
-    match survey(block) {
-        Ok(summary) => summary.fault.is_none() && summary.end < block.len(),
-        Err(_) => false,
-    }
+    survey(block).is_ok_and(|summary| summary.fault.is_none() && summary.end < block.len())
 }
 
 impl Tally {
-    pub(crate) fn new() -> Tally {
-        Tally {
-            heard: 0,
-            unheard: 0,
-            refused: 0,
-            refused_blocks: 0,
-            faults: 0,
-            fill: 0,
-        }
-    }
-
     fn add_packets(&mut self, taken: Taken) {
         self.heard = self.heard.saturating_add(taken.heard);
         self.unheard = self.unheard.saturating_add(taken.unheard);

@@ -10,6 +10,7 @@ use crate::portrait::{Field, Portrait};
 use crate::trouble::Trouble;
 use memory::{ByteMemory, Memory, Strip, WordMemory};
 use script::DecoderName;
+use std::process::ExitCode;
 
 /// Where the strip of the second board begins, in cells.
 const STRIP_FIRST: usize = 64;
@@ -48,17 +49,14 @@ fn play_on_words(
 }
 
 /// The first decoder that differs, and in which field.
-fn first_difference(
-    names: &[DecoderName],
-    one: &[Portrait],
-    other: &[Portrait],
-) -> Option<Difference> {
-    for (name, (first, second)) in names.iter().zip(one.iter().zip(other.iter())) {
-        if let Some(field) = first.difference(second) {
-            return Some(Difference { name: *name, field });
-        }
-    }
-    None
+fn first_difference(one: &[Portrait], other: &[Portrait]) -> Option<Difference> {
+    one.iter().zip(other).find_map(|(first, second)| {
+        let field = first.difference(second)?;
+        Some(Difference {
+            name: first.name,
+            field,
+        })
+    })
 }
 
 fn digest_of(portraits: &[Portrait]) -> Digest {
@@ -71,7 +69,7 @@ fn digest_of(portraits: &[Portrait]) -> Digest {
 
 /// Prints what was played, in two lines.
 fn show(rt: &HostRuntime, played: &Played, capture: &Capture) -> Result<(), Trouble> {
-    let decoders = played.names.len();
+    let decoders = played.portraits.len();
     let blocks = capture.blocks.len();
     let tally = played.tally;
     println!(rt; "decoders {decoders} blocks {blocks}")?;
@@ -79,18 +77,18 @@ fn show(rt: &HostRuntime, played: &Played, capture: &Capture) -> Result<(), Trou
     Ok(())
 }
 
-fn compare(rt: &HostRuntime, one: &Played, other: &Played) -> Result<(), Trouble> {
-    let first = one.portraits.as_slice();
-    match first_difference(one.names.as_slice(), first, other.portraits.as_slice()) {
+/// Prints whether two boards are alike, and fails where they are not.
+fn compare(rt: &HostRuntime, one: &[Portrait], other: &[Portrait]) -> Result<ExitCode, Trouble> {
+    match first_difference(one, other) {
         None => {
-            let digest = digest_of(first);
+            let digest = digest_of(one);
             println!(rt; "alike {digest}")?;
-            Ok(())
+            Ok(ExitCode::SUCCESS)
         }
         Some(Difference { name, field }) => {
             let name = Named(name);
             println!(rt; "differ {name} {field}")?;
-            Err(Trouble::Printed)
+            Ok(ExitCode::FAILURE)
         }
     }
 }
@@ -101,24 +99,24 @@ fn fittings_in(rt: &HostRuntime, path: &str) -> Result<Vec<Wanted>, Trouble> {
 }
 
 /// Takes a capture on one board, and tells what it holds then by a digest.
-pub(crate) fn replay(rt: &HostRuntime, fittings: &str, capture: &str) -> Result<(), Trouble> {
+pub(crate) fn replay(rt: &HostRuntime, fittings: &str, capture: &str) -> Result<ExitCode, Trouble> {
     let fittings = fittings_in(rt, fittings)?;
     let capture = Capture::read(rt, capture)?;
     let played = play_on_bytes(rt, fittings.as_slice(), &capture)?;
     show(rt, &played, &capture)?;
     let digest = digest_of(played.portraits.as_slice());
     println!(rt; "digest {digest}")?;
-    Ok(())
+    Ok(ExitCode::SUCCESS)
 }
 
 /// Takes a capture on two boards over different memories, and compares their decoders.
-pub(crate) fn twin(rt: &HostRuntime, fittings: &str, capture: &str) -> Result<(), Trouble> {
+pub(crate) fn twin(rt: &HostRuntime, fittings: &str, capture: &str) -> Result<ExitCode, Trouble> {
     let fittings = fittings_in(rt, fittings)?;
     let capture = Capture::read(rt, capture)?;
     let one = play_on_bytes(rt, fittings.as_slice(), &capture)?;
     let other = play_on_words(rt, fittings.as_slice(), &capture)?;
     show(rt, &one, &capture)?;
-    compare(rt, &one, &other)
+    compare(rt, one.portraits.as_slice(), other.portraits.as_slice())
 }
 
 /// Takes a capture on each of two boards, and compares what became of each decoder.
@@ -127,7 +125,7 @@ pub(crate) fn twin_with_other(
     fittings: &str,
     capture: &str,
     other_capture: &str,
-) -> Result<(), Trouble> {
+) -> Result<ExitCode, Trouble> {
     let fittings = fittings_in(rt, fittings)?;
     let capture = Capture::read(rt, capture)?;
     let other_capture = Capture::read(rt, other_capture)?;

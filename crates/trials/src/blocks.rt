@@ -1,7 +1,6 @@
 use block::{Survey, packet_at, survey};
 use fault::{Fault, Refusal};
 use std::process::Abort;
-use std::test::Fail;
 
 fn surveyed(
     rt: &impl Abort,
@@ -72,41 +71,24 @@ fn length_is_refused(rt: HostRuntime) {
     assert_eq!(rt; survey(&[0; 513]), Err(refused));
 }
 
-fn handed_out(rt: &impl Abort, block: &[u8], n: usize, expected: &[u8]) -> Result<(), Fail> {
-    match packet_at(block, n) {
-        Ok(packet) => {
-            assert!(rt; packet == expected);
-            Ok(())
-        },
-        Err(_) => {
-            assert!(rt; false);
-            Ok(())
-        },
-    }
+fn handed_out<'a>(rt: &impl Abort, block: &'a [u8], n: usize, expected: &'a [u8]) {
+    assert_eq!(rt; packet_at(block, n), Ok(expected));
 }
 
-fn not_there(rt: &impl Abort, block: &[u8], n: usize) -> Result<(), Fail> {
+/// The refusal of a number that no packet of the block has.
+fn not_there(rt: &impl Abort, block: &[u8], n: usize) {
     let missing = Fault {
         refusal: Refusal::NumberOutOfRange,
         offset: 0,
     };
-    match packet_at(block, n) {
-        Ok(_) => {
-            assert!(rt; false);
-            Ok(())
-        },
-        Err(fault) => {
-            assert_eq!(rt; fault, missing);
-            Ok(())
-        },
-    }
+    assert_eq!(rt; packet_at(block, n), Err(missing));
 }
 
 #[test]
-fn packets_are_handed_out(rt: HostRuntime) -> Result<(), Fail> {
+fn packets_are_handed_out(rt: HostRuntime) {
     let block = [0x10, 3, 0xff, 0, 0xff, 4, 3, 0xde, 1, 0xdc, 9];
-    handed_out(&rt, &block, 0, &[0xff, 0, 0xff])?;
-    handed_out(&rt, &block, 1, &[3, 0xde, 1, 0xdc])?;
-    not_there(&rt, &block, 2)?;
-    not_there(&rt, &[0, 0, 0, 0], 0)
+    handed_out(&rt, &block, 0, &[0xff, 0, 0xff]);
+    handed_out(&rt, &block, 1, &[3, 0xde, 1, 0xdc]);
+    not_there(&rt, &block, 2);
+    not_there(&rt, &[0, 0, 0, 0], 0);
 }

@@ -1,4 +1,4 @@
-use fault::{Layer, Refusal};
+use fault::Refusal;
 
 /// Every refusal, by its number.
 const ALL: [Refusal; 22] = [
@@ -26,20 +26,11 @@ const ALL: [Refusal; 22] = [
     Refusal::CellOutOfRange,
 ];
 
-fn layer_name(layer: Layer) -> &'static str {
-    match layer {
-        Layer::Packet => "packet",
-        Layer::Block => "block",
-        Layer::Board => "board",
-        Layer::Memory => "memory",
-    }
-}
-
 /// Prints every refusal with its number, its layer and its name.
 pub(crate) fn show_refusals(rt: &HostRuntime) -> anyhow::Result<()> {
     for refusal in ALL {
         let number = refusal.number();
-        let layer = layer_name(refusal.layer());
+        let layer = refusal.layer();
         println!(rt; "{number} {layer}: {refusal}")?;
     }
     Ok(())

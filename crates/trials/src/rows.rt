@@ -16,37 +16,22 @@ pub enum Verdict {
 
 /// The bytes that a text names in hexadecimal, as far as it does.
 fn bytes_of(heap: Global, text: &str) -> Result<Vec<u8>, AllocError> {
-    let mut bytes = Vec::new(heap);
-    for word in text.split_whitespace() {
-        match u8::from_str_radix(word, 16) {
-            Ok(byte) => bytes.push(byte)?,
-            Err(_) => return Ok(bytes),
-        }
-    }
-    Ok(bytes)
+    text.split_whitespace()
+        .map_while(|word| u8::from_str_radix(word, 16).ok())
+        .collect(heap)
 }
 
 /// Whether a packet that reads so is written to the same bytes.
 fn is_written_back(packet: Packet, bytes: &[u8]) -> bool {
     let mut place = [0u8; 6];
-    match write(packet.target, packet.instruction, &mut place) {
-        Ok(count) => match place.get(0..count) {
-            Some(front) => front == bytes,
-            None => false,
-        },
-        Err(_) => false,
-    }
+    write(packet.target, packet.instruction, &mut place).is_ok_and(|count| place.get(0..count)
+        == Some(bytes))
 }
 
 fn said(heap: Global, bytes: &[u8]) -> Result<String, AllocError> {
     match read(bytes) {
-        Ok(packet) => {
-            if !is_written_back(packet, bytes) {
-                return String::from_str(heap, "something that is written otherwise");
-            }
-            let words = InWords(packet);
-            format!(in heap; "{words}")
-        }
+        Ok(packet) if is_written_back(packet, bytes) => InWords(packet).to_string(heap),
+        Ok(_) => String::from_str(heap, "something that is written otherwise"),
         Err(refusal) => {
             let number = refusal.number();
             format!(in heap; "refused {number}")

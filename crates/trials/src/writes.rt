@@ -127,9 +127,7 @@ fn instructions_have_their_targets(rt: HostRuntime) {
 #[test]
 fn the_place_keeps_its_rest(rt: HostRuntime) -> Result<(), Fail> {
     let loco = Target::Long { address: 1000 };
-    let Some(cv) = CvNumber::new(29) else {
-        return Err(Fail::new("no such variable"));
-    };
+    let cv = CvNumber::new(29).ok_or("no such variable")?;
     let mut place = [9u8; 8];
     assert_eq!(rt;
         write(loco, Instruction::WriteByte { cv, value: 6 }, &mut place),
@@ -150,18 +148,15 @@ fn the_place_keeps_its_rest(rt: HostRuntime) -> Result<(), Fail> {
     Ok(())
 }
 
-/// The number of the variable that a number makes, or 0 where it makes none.
-fn numbered(number: u16) -> u16 {
-    match CvNumber::new(number) {
-        Some(cv) => cv.get(),
-        None => 0,
-    }
+/// The number of the variable that a number makes, if it makes one.
+fn numbered(number: u16) -> Option<u16> {
+    CvNumber::new(number).map(CvNumber::get)
 }
 
 #[test]
 fn variables_are_numbered_from_one(rt: HostRuntime) {
-    assert_eq!(rt; numbered(0), 0);
-    assert_eq!(rt; numbered(1), 1);
-    assert_eq!(rt; numbered(1024), 1024);
-    assert_eq!(rt; numbered(1025), 0);
+    assert_eq!(rt; numbered(0), None);
+    assert_eq!(rt; numbered(1), Some(1));
+    assert_eq!(rt; numbered(1024), Some(1024));
+    assert_eq!(rt; numbered(1025), None);
 }

@@ -1,40 +1,31 @@
+use crate::lists::NumbersOn;
+use crate::switches::{direction, switched};
 use crate::wrapper::InWords;
 use packet::{FunctionGroup, Instruction};
-use std::fmt;
+use std::ops::RangeInclusive;
+use std::{array, fmt};
 
-/// Where a decoder is sent, forward or in reverse.
-fn direction(forward: bool) -> &'static str {
-    if forward { "forward" } else { "reverse" }
-}
-
-fn switched(on: bool) -> &'static str {
-    if on { "on" } else { "off" }
-}
-
-/// The lowest function of a group and how many it has.
-fn span(group: FunctionGroup) -> (u8, u8) {
+fn span(group: FunctionGroup) -> RangeInclusive<u8> {
     match group {
-        FunctionGroup::F0ToF4 => (0, 5),
-        FunctionGroup::F5ToF8 => (5, 4),
-        FunctionGroup::F9ToF12 => (9, 4),
-        FunctionGroup::F13ToF20 => (13, 8),
-        FunctionGroup::F21ToF28 => (21, 8),
-        FunctionGroup::F29ToF36 => (29, 8),
-        FunctionGroup::F37ToF44 => (37, 8),
-        FunctionGroup::F45ToF52 => (45, 8),
-        FunctionGroup::F53ToF60 => (53, 8),
-        FunctionGroup::F61ToF68 => (61, 8),
+        FunctionGroup::F0ToF4 => 0..=4,
+        FunctionGroup::F5ToF8 => 5..=8,
+        FunctionGroup::F9ToF12 => 9..=12,
+        FunctionGroup::F13ToF20 => 13..=20,
+        FunctionGroup::F21ToF28 => 21..=28,
+        FunctionGroup::F29ToF36 => 29..=36,
+        FunctionGroup::F37ToF44 => 37..=44,
+        FunctionGroup::F45ToF52 => 45..=52,
+        FunctionGroup::F53ToF60 => 53..=60,
+        FunctionGroup::F61ToF68 => 61..=68,
     }
 }
 
-/// Whether a group's bits switch its function `k`, counted from its lowest. FL stands above F1 to F4.
-fn is_on(group: FunctionGroup, bits: u8, k: u8) -> bool {
-    let bit = match group {
-        FunctionGroup::F0ToF4 if k == 0 => 4,
-        FunctionGroup::F0ToF4 => k.saturating_sub(1),
-        _ => k,
-    };
-    bits.checked_shr(u32::from(bit)).unwrap_or(0) % 2 == 1
+/// A group's bits in the order of its functions. FL, which is F0, stands above F1 to F4.
+fn in_order(group: FunctionGroup, bits: u8) -> u8 {
+    match group {
+        FunctionGroup::F0ToF4 => bits % 16 * 2 + bits / 16 % 2,
+        _ => bits,
+    }
 }
 
 fn functions<W: fmt::Write>(
@@ -42,19 +33,17 @@ fn functions<W: fmt::Write>(
     bits: u8,
     f: &mut fmt::Formatter<W>,
 ) -> fmt::Result {
-    let (lowest, count) = span(group);
-    let highest = lowest.saturating_add(count).saturating_sub(1);
-    write!(f, "functions {lowest} to {highest} on ")?;
-    let mut any = false;
-    for k in 0..count {
-        if is_on(group, bits, k) {
-            let number = lowest.saturating_add(k);
-            let comma = if any { "," } else { "" };
-            write!(f, "{comma}{number}")?;
-            any = true;
-        }
-    }
-    if any { Ok(()) } else { write!(f, "-") }
+    let span = span(group);
+    let first = usize::from(*span.start());
+    let last = usize::from(*span.end());
+    let bits = in_order(group, bits);
+    let switches: [bool; 8] = array::from_fn(|k| first + k <= last && bits >> k & 1 == 1);
+    let on = NumbersOn {
+        first,
+        switches: &switches,
+        none: "-",
+    };
+    write!(f, "functions {first} to {last} on {on}")
 }
 
 /// What a code of five bits asks in 28 steps, and in 14, where its bit 4 is FL.
