@@ -37,21 +37,28 @@ module _ (h : ℕ → Bool) where
   pub count_less : (s t : ℕ) → s < t → h s ≡ true → count_below h s < count_below h t
   count_less s t l e = let m = count_mono (s + 1) t (omega arith) in omega (arith, count_hit s e)
 
+  -- no number from s on and below t passes
+  pub count_skip : (s t : ℕ) → s ≤ t → ((k : ℕ) → s ≤ k → k < t → h k ≡ false) → count_below h t ≡ count_below h s
+  count_skip s zero l none = let e : s ≡ 0 = omega arith in rw e refl
+  count_skip s (suc t) l none =
+      ⊎_elim (λ e. rw e refl) (λ ne. subst (λ n. count_below h n ≡ count_below h s) (add-one t) (count_miss t (none t (omega arith) (omega arith)) ∙ count_skip s t (omega arith) (λ k a b. none k a (omega arith)))) (cases_eq s (suc t))
+
   pub count_apart : (s t : ℕ) → s ≢ t → h s ≡ true → h t ≡ true → count_below h s ≢ count_below h t
   count_apart s t ne e f same =
       ⊎_elim ne (⊎_elim (λ l. let m = count_less s t l e in omega arith) (λ l. let m = count_less t s l f in omega arith)) (cases_order s t)
 
-  -- a number that passes is none that does not
-  pub parted : (s i : ℕ) → h s ≡ true → h i ≡ false → s ≢ i
-  parted s i f e q = let r = ap h q in let z : ◌≡◌ {A = ℕ} 0 1 = cc in omega arith
+  -- where no more pass below t than below s, none passes between
+  pub none_between : (s t : ℕ) → count_below h t ≡ count_below h s → (k : ℕ) → s ≤ k → k < t → h k ≡ false
+  none_between s t e k a b = ⊎_elim (λ y. let m = count_mono s k a in let l = count_less k t b y in absurd (omega arith)) (λ n. n) (cases_Bool (h k))
+
+-- a test as the number that it counts for
+pub as_cond : (b : Bool) → bool_byte b ≡ cond b 1 0
+as_cond true = refl
+as_cond false = refl
 
 -- one more number, counted by what its test came to
 pub byte_more : (q : ℕ → Bool) (s : ℕ) {k j : ℕ} {b : Bool} → j ≡ bool_byte b → b ≡ q s → k ≡ count_below q s → k + j ≡ count_below q (s + 1)
 byte_more q s {k} {j} {b} e f i = ap₂ ◌+◌ i (e ∙ as_cond b ∙ ap (λ b. cond b 1 0) f) ∙ sym (count_more q s)
-  where
-    as_cond : (b : Bool) → bool_byte b ≡ cond b 1 0
-    as_cond true = refl
-    as_cond false = refl
 
 pub passes_at : {X : Type 0} (p : X → Bool) (xs : List X) (k : ℕ) (x : X) → k < length xs → passes p xs k ≡ p (get_or xs k x)
 passes_at p [] k x l = absurd (omega arith)

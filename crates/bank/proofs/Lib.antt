@@ -3,4 +3,4 @@ pub mod Clearing
 pub mod Counts
 pub mod Turns
 pub mod Sames
-pub mod Picks
+pub mod Nexts

@@ -1,6 +1,6 @@
 -- A bank in the middle of a delivery: the slots below i have had their turn.
-use Rattle.std.proofs.Common.{◌≡◌, ℕ, ◌+◌, ◌-◌, ◌*◌, ◌/◌, ◌%◌, ◌<◌, ◌≤◌, Bool, true, false, ◌&&◌, ◌≢◌, List, ◌++◌, length, get_or, set, take, drop, sym, refl, ap, ◌∙◌, subst, ap₂, ⊎_elim, arith, length-set, length-append, length-drop, length-take-le, get_or-take, get_or-drop, get_or-set_other, get_or-set_same}
-use Rattle.std.proofs.lemmas.Bool.{cases_eq}
+use Rattle.std.proofs.Common.{◌≡◌, ℕ, ◌+◌, ◌-◌, ◌*◌, ◌/◌, ◌%◌, ◌<◌, ◌≤◌, Bool, true, ◌&&◌, ◌≢◌, List, ◌++◌, length, get_or, set, take, drop, sym, refl, ap, ◌∙◌, subst, ap₂, ⊎_elim, arith, length-set, length-append, length-drop, length-take-le, get_or-take, get_or-drop, get_or-set_other, get_or-set_same}
+use Rattle.std.proofs.lemmas.Bool.{cases_eq, cases_lt}
 use Rattle.std.proofs.lemmas.List.{get_or_default, get_or_append_left, get_or-append_right}
 use Rattle.packet.specs.declared.target.Target.{Target}
 use Rattle.decoder.specs.Alone.{Own, Rules, own}
@@ -9,7 +9,7 @@ use Rattle.bank.specs.Windows.{window, Wrote}
 use Rattle.bank.specs.Hearers.{is_heard}
 use Rattle.bank.specs.Banks.{own_at, Turned, Kept, ChangedBelow, passes, hears_at}
 use Rattle.bank.proofs.Windowed.{cell_of}
-use Rattle.bank.proofs.Counts.{count_hit, count_miss, count_less, count_apart, parted, passes_at}
+use Rattle.bank.proofs.Counts.{count_hit, count_less, count_mono, count_apart, count_skip, none_between, passes_at}
 
 pub start_kept : {h : ℕ → Bool} {cells : List ℕ} → Kept h 0 cells cells
 start_kept = record { size = refl; there = λ t n. refl }
@@ -21,8 +21,8 @@ module _ {h : ℕ → Bool} {cells cells' : List ℕ} {i : ℕ} (k : Kept h i ce
     there = λ t n. wrote.there t (λ q. n (omega arith) (rw q e)) ∙ k.there t (λ l. n (omega arith));
   }
 
-  pub miss_kept : Kept h (i + 1) cells cells'
-  miss_kept = record { size = k.size; there = λ t n. k.there t (λ l. n (omega arith)) }
+  pub skip_kept : {s : ℕ} → i ≤ s → Kept h s cells cells'
+  skip_kept l = record { size = k.size; there = λ t n. k.there t (λ m. n (omega arith)) }
 
   -- the window of the slot whose turn it is
   pub idle-window : window cells' i ≡ window cells i
@@ -51,12 +51,12 @@ module _ {X : Type 0} {h : ℕ → Bool} {f : ℕ → Own X → Own X} {bank : L
             ap₂ own (get_or-set_other bank' next (count_below h s) y x (λ q. count_apart h s i ne hs e (q ∙ at))) (wrote.there s ne)
             ∙ u.here x s (omega arith) hs
 
-    -- the slot i is of another kind
-    pub miss_turned : h i ≡ false → {cells'' : List ℕ} → ((s : ℕ) → s ≢ i → window cells'' s ≡ window cells' s) → Turned h (i + 1) f bank cells bank' cells''
-    miss_turned e {cells''} there = record {
+    -- the slots from i on and below j are of other kinds
+    pub skip_turned : {j : ℕ} → i ≤ j → count_below h j ≡ count_below h i → Turned h j f bank cells bank' cells'
+    skip_turned {j} l e = record {
       len = u.len;
-      here = λ x s l hs. let ne = parted h s i hs e in ap (own (get_or bank' (count_below h s) x)) (there s ne) ∙ u.here x s (omega arith) hs;
-      beyond = λ x j l. let n = count_miss h i e in u.beyond x j (omega arith);
+      here = λ x s m hs. u.here x s (⊎_elim (λ b. b) (λ b. let n = count_less h s j m hs in let o = count_mono h i s b in absurd (omega arith)) (cases_lt s i)) hs;
+      beyond = λ x k m. u.beyond x k (omega arith);
     }
 
     -- whether the slot i hears is decided by what it was at first
@@ -67,12 +67,6 @@ module _ {X : Type 0} {h : ℕ → Bool} {f : ℕ → Own X → Own X} {bank : L
         ∙ passes_at (λ y. is_heard m t (own y (window cells i))) bank (count_below h i) x (rw (← at, ← u.len) room)
         ∙ ap₂ (λ y w. is_heard m t (own y w)) (sym (read ∙ ap (λ n. get_or bank' n x) at ∙ u.beyond x (count_below h i) (omega arith))) (sym same)
 
-    -- nor does it hear
-    pub miss_heard : (m : Rules X) (t : Target) {k : ℕ} → h i ≡ false → k ≡ count_below (hears_at m t h bank cells) i → k ≡ count_below (hears_at m t h bank cells) (i + 1)
-    unfolding hears_at
-    miss_heard m t e at =
-        at ∙ sym (count_miss (hears_at m t h bank cells) i (ap (λ b. b && passes (λ y. is_heard m t (own y (window cells i))) bank (count_below h i)) e))
-
   module _ {n : ℕ} {bank' : List X} {cells' : List ℕ} (u : Turned h n f bank cells bank' cells') where
     -- windows of other kinds change after it, or before it
     pub after_turned : {cells'' : List ℕ} → ((s : ℕ) → s < n → h s ≡ true → window cells'' s ≡ window cells' s) → Turned h n f bank cells bank' cells''
@@ -80,6 +74,12 @@ module _ {X : Type 0} {h : ℕ → Bool} {f : ℕ → Own X → Own X} {bank : L
 
     pub before_turned : {past : List ℕ} → ((s : ℕ) → s < n → h s ≡ true → window cells s ≡ window past s) → Turned h n f bank past bank' cells'
     before_turned {past} kept = record { len = u.len; here = λ x s l hs. u.here x s l hs ∙ ap (λ w. f s (own (get_or bank (count_below h s) x) w)) (kept s l hs); beyond = u.beyond }
+
+-- nor do slots of other kinds hear
+pub skip_heard : {X : Type 0} (m : Rules X) (t : Target) (h : ℕ → Bool) (bank : List X) (cells : List ℕ) {i j : ℕ} → i ≤ j → count_below h j ≡ count_below h i → count_below (hears_at m t h bank cells) j ≡ count_below (hears_at m t h bank cells) i
+unfolding hears_at
+skip_heard m t h bank cells {i} {j} l e =
+    count_skip _ i j l (λ k a b. ap (λ c. c && passes (λ x. is_heard m t (own x (window cells k))) bank (count_below h k)) (none_between h i j e k a b))
 
 -- the cells beyond the slots
 pub kept_beyond : {h : ℕ → Bool} {n : ℕ} {cells cells' : List ℕ} → Kept h n cells cells' → (k : ℕ) → 1024 * n ≤ k → get_or cells' k 0 ≡ get_or cells k 0

@@ -2,6 +2,7 @@
 use Rattle.std.specs.Prelude.{◌≡◌, ℕ, zero, suc, ◌*◌, ◌<◌, ◌≤◌, Bool, true, false, cond, ◌&&◌, ◌≢◌, List, [], ◌∷◌, length, Ok, Err, Result, nat_le, nat_lt, slice_index_or}
 use Rattle.fault.specs.declared.fault.Fault.{Fault}
 use Rattle.fault.specs.declared.refusal.Refusal.TheVariants.{LentTooShort, TooFewCells}
+use Rattle.fault.specs.Places.{nowhere}
 use Rattle.packet.specs.declared.target.Target.{Target}
 use Rattle.decoder.specs.Alone.{Own, Rules, own}
 use Rattle.bank.specs.declared.kind.Kind.{Kind}
@@ -44,7 +45,7 @@ is_enough kinds kind bank cells = has_records kinds kind bank && nat_le (1024 * 
 
 -- the refusal of a bank or a memory that is too short
 abbrev pub lent_too_short : Fault
-lent_too_short = record { refusal = LentTooShort; offset = 0 }
+lent_too_short = nowhere LentTooShort
 
 -- an answer, unless too little was lent
 abbrev pub unless_short : {A : Type 0} → Bool → A → Result A Fault
@@ -52,7 +53,7 @@ unless_short enough a = cond enough (Ok a) (Err lent_too_short)
 
 -- the refusal of a memory that has no window for a new decoder
 abbrev pub too_few_cells : Fault
-too_few_cells = record { refusal = TooFewCells; offset = 0 }
+too_few_cells = nowhere TooFewCells
 
 -- whether a new decoder has its window
 abbrev pub unless_few : Bool → Result Unit Fault

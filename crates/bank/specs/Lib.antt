@@ -3,3 +3,4 @@ pub mod Windows
 pub mod Hearers
 pub mod Banks
 pub mod Opened
+pub mod Slots

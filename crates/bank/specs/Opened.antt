@@ -1,8 +1,10 @@
 -- A window of a memory by its variables.
-use Rattle.std.specs.Prelude.{◌≡◌, ℕ, List}
+use Rattle.std.specs.Prelude.{◌≡◌, ℕ, true, false, List, Result}
+use Rattle.fault.specs.declared.fault.Fault.{Fault}
 use Rattle.memory.specs.declared.memory.Memory.{Ghosts}
 use Rattle.bank.specs.declared.window.Window.{Window}
-use Rattle.bank.specs.Windows.{window, Wrote}
+use Rattle.bank.specs.Banks.{unless_few}
+use Rattle.bank.specs.Windows.{window, has_window, Wrote}
 
 module _ {M : Type 0} {m : Ghosts M} where
   -- the variables in the window
@@ -22,3 +24,11 @@ module _ {M : Type 0} {m : Ghosts M} where
     pub lender : new.memory.ghost_name ≡ old.memory.ghost_name
     pub cells : Wrote (m.cells old.memory.now) (m.cells new.memory.now) old.slot w
     pub outside : m.outside new.memory.now ≡ m.outside old.memory.now
+
+-- what a new decoder's variables make of a memory: the window of its slot holds them now;
+-- a memory that has no such window is refused, and stays
+pub record Fits {M : Type 0} (m : Ghosts M) (old new : M) (slot : ℕ) (vars : List ℕ) (result : Result Unit Fault) : Type 0 where
+  pub answer : result ≡ unless_few (has_window slot (m.cells old))
+  pub cells : has_window slot (m.cells old) ≡ true → Wrote (m.cells old) (m.cells new) slot vars
+  pub refused : has_window slot (m.cells old) ≡ false → m.cells new ≡ m.cells old
+  pub outside : m.outside new ≡ m.outside old

@@ -13,16 +13,10 @@ impl<M: Memory> Window<'_, M> {
     pub(crate) fn apply(&mut self, effect: Option<Effect>)
         ensures { Became self.old self.new (applied effect (variables self.old)) }
     {
-        let Some(effect) = effect else {
-            return;
-        };
         match effect {
-            Effect::Put { cv, value } => self.put(cv, value),
-            Effect::Consist(value) => self.put(CvNumber::CONSIST_ADDRESS, value),
-            Effect::Config(value) => self.put(CvNumber::CONFIGURATION, value),
-            Effect::Acceleration(value) => self.put(CvNumber::ACCELERATION_ADJUSTMENT, value),
-            Effect::Deceleration(value) => self.put(CvNumber::DECELERATION_ADJUSTMENT, value),
-            Effect::HardReset => self.reset(),
+            Some(Effect::Put { cv, value }) => self.put(cv, value),
+            Some(Effect::HardReset) => self.reset(),
+            None => {}
         }
     }
 

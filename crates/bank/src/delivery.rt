@@ -1,4 +1,4 @@
-ghost use Rattle.std.specs.Prelude.{◌≡◌, ℕ, ◌*◌, ◌^◌, ◌<◌, ◌≤◌, true, false, length, slice_index};
+ghost use Rattle.std.specs.Prelude.{◌≡◌, ℕ, ◌*◌, ◌≤◌, true, false, length, slice_index};
 ghost use Rattle.bank.specs.Banks.{Turned, Kept, hears_at, is_enough, unless_short};
 ghost use Rattle.bank.specs.Hearers.{after_hearing};
 ghost use Rattle.bank.specs.Kinds.{count_below, count_of, is_kind};
@@ -6,6 +6,7 @@ ghost use Rattle.bank.specs.Kinds.{count_below, count_of, is_kind};
 use crate::counting::is_enough;
 use crate::kind::Kind;
 use crate::listener::Listener;
+use crate::slots::SlotsOf;
 use crate::window::Window;
 use fault::{Fault, Refusal};
 use memory::Memory;
@@ -16,7 +17,10 @@ use packet::Packet;
 /// An inner call of the board. Refused, and nothing changes, where the bank has fewer records than
 /// the slots have decoders of the kind, or the memory has fewer windows than there are slots.
 // `kind` is no constant of `T`, and no field beside `kinds`: a bank of any type may stand for any kind, and a
-// board asks for each kind in turn of one list.
+// board asks for each kind in turn of one list. `packet` and what it says are no struct: that the bytes read so is
+// asked of nobody, and without that it would only rename them. `outside` is no part of `Kept`, nor in `setting` of
+// `Wrote`: those
+// compare lists of cells.
 pub fn deliver<T: Listener, M: Memory>(
     bank: &mut [T],
     kind: Kind,
@@ -53,18 +57,13 @@ fn deliver_all<T: Listener, M: Memory>(
     ensures kept { Kept (is_kind kinds.now kind) (length kinds.now) (M.Memory.cells memory.old) (M.Memory.cells memory.new) }
     ensures outside { M.Memory.outside memory.new ≡ M.Memory.outside memory.old }
 {
-    // Tried: a chain that filters the slots and numbers them, or that zips them with `bank.iter_mut()`. The check
-    // generates no proof of a `for` over it: antt refuses the module of the loop's iterator.
-    let mut next = 0;
+    // By its number: of a zip with `bank.iter_mut()`, which was tried, a proof knows afterwards how many records
+    // there are, and none of them.
     let mut heard = 0;
-    for (slot, found) in kinds.iter().enumerate() {
-        if *found != kind {
-            continue;
-        }
+    for (number, slot) in SlotsOf::new(kind, kinds).enumerate() {
         let mut window = Window::new(memory, slot);
-        let hears = bank[next].hear(&mut window, packet, said);
+        let hears = bank[number].hear(&mut window, packet, said);
         heard += usize::from(hears);
-        next += 1;
     }
     heard
 }

@@ -1,14 +1,14 @@
-ghost use Rattle.std.specs.Prelude.{◌≡◌, true, false};
 ghost use Rattle.decoder.specs.Fitted.{blank, mobile_defaults, mobile_variables};
-ghost use Rattle.bank.specs.Banks.{unless_few};
-ghost use Rattle.bank.specs.Opened.{Became};
-ghost use Rattle.bank.specs.Windows.{has_window, Wrote};
+ghost use Rattle.bank.specs.Opened.{Became, Fits};
 
 use crate::window::{Window, has_window};
 use decoder::Address;
 use fault::{Fault, Refusal};
 use memory::Memory;
 use packet::CvNumber;
+
+// Two functions, which the board brings together: a mobile decoder's variables hang on its address, those of an
+// accessory decoder on nothing, and what a fitting of any kind is only the crates above know.
 
 /// Gives a new mobile decoder its variables, all of them: the defaults, and its address.
 ///
@@ -19,10 +19,7 @@ pub fn fit_mobile_variables<M: Memory>(
     slot: usize,
     address: Address,
 ) -> Result<(), Fault>
-    ensures answer { result ≡ unless_few (has_window slot (M.Memory.cells memory.old)) }
-    ensures cells { has_window slot (M.Memory.cells memory.old) ≡ true → Wrote (M.Memory.cells memory.old) (M.Memory.cells memory.new) slot (mobile_variables address) }
-    ensures refused { has_window slot (M.Memory.cells memory.old) ≡ false → M.Memory.cells memory.new ≡ M.Memory.cells memory.old }
-    ensures outside { M.Memory.outside memory.new ≡ M.Memory.outside memory.old }
+    ensures { Fits M.Memory memory.old memory.new slot (mobile_variables address) result }
 {
     if !has_window(memory, slot) {
         return Err(Refusal::TooFewCells.into());
@@ -36,10 +33,7 @@ pub fn fit_mobile_variables<M: Memory>(
 /// An inner call of the board. Refused, and nothing changes, where the memory has not the slot's
 /// window.
 pub fn fit_accessory_variables<M: Memory>(memory: &mut M, slot: usize) -> Result<(), Fault>
-    ensures answer { result ≡ unless_few (has_window slot (M.Memory.cells memory.old)) }
-    ensures cells { has_window slot (M.Memory.cells memory.old) ≡ true → Wrote (M.Memory.cells memory.old) (M.Memory.cells memory.new) slot blank }
-    ensures refused { has_window slot (M.Memory.cells memory.old) ≡ false → M.Memory.cells memory.new ≡ M.Memory.cells memory.old }
-    ensures outside { M.Memory.outside memory.new ≡ M.Memory.outside memory.old }
+    ensures { Fits M.Memory memory.old memory.new slot blank result }
 {
     if !has_window(memory, slot) {
         return Err(Refusal::TooFewCells.into());
@@ -58,10 +52,10 @@ impl<M: Memory> Window<'_, M> {
         match address {
             Address::Short(address) => self.put(CvNumber::SHORT_ADDRESS, address),
             Address::Long(address) => {
-                // `% 256` takes nothing away from an address that the board fits: none is above 10239.
-                let high = ((192 + address / 256) % 256) as u8;
-                self.put(CvNumber::LONG_ADDRESS_HIGH, high);
-                self.put(CvNumber::LONG_ADDRESS_LOW, (address % 256) as u8);
+                // No address above 10239 is fitted, whose high byte would go round.
+                let [high, low] = address.to_be_bytes();
+                self.put(CvNumber::LONG_ADDRESS_HIGH, high.wrapping_add(192));
+                self.put(CvNumber::LONG_ADDRESS_LOW, low);
                 // Bit 5 says that the long address counts.
                 self.put(CvNumber::CONFIGURATION, 34);
             }
@@ -81,6 +75,7 @@ impl<M: Memory> Window<'_, M> {
     }
 
     /// Puts 0 into every variable, whatever the window held before.
+    #[tactic(auto, using(crate::proofs::Clearing::clear_all))]
     fn clear(&mut self)
         ensures { Became self.old self.new blank }
     {

@@ -14,8 +14,8 @@ use packet::{Packet, Target};
 use state::WaitingWrite;
 
 /// A decoder of any kind, at the variables of its slot.
-// Basic and extended decoders have an impl each: one for both would need a trait of what each hears and obeys,
-// which is this one.
+// An impl for mobile decoders and one for accessory decoders: those hear by their variables, these by their own address, and
+// a trait over both would be this one again.
 pub trait Listener: Sized {
     /// What decides among its variables.
     type View: View;
@@ -41,10 +41,12 @@ pub trait Listener: Sized {
         ensures rec { self.new ≡ (after_hearing rules packet.now said.target said.instruction (own self.old (variables window.old))).rec }
         ensures vars { Became window.old window.new (after_hearing rules packet.now said.target said.instruction (own self.old (variables window.old))).vars }
     {
-        let view = Self::View::read(window, access_of(said.instruction));
-        let Some(role) = self.hears(&view, said.target) else {
+        // Most packets are for others: only where one is heard the variable that it names is read.
+        let others = Self::View::read(window, None);
+        let Some(role) = self.hears(&others, said.target) else {
             return false;
         };
+        let view = Self::View::read(window, access_of(said.instruction));
         let heard = Heard {
             role,
             packet: WaitingWrite::new(packet),

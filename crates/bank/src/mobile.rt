@@ -26,9 +26,9 @@ impl Listener for Mobile {
 }
 
 impl Variables for Mobile {
-    ghost OFFSET = { 0 };
+    ghost OFFSET = { mobile_rules.offset };
 
-    const OFFSET: u16 = 0;
+    const OFFSET: u16 = MobileView::OFFSET;
 
     ghost offset_is = { refl };
 

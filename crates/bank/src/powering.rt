@@ -1,4 +1,4 @@
-ghost use Rattle.std.specs.Prelude.{◌≡◌, ℕ, ◌≤◌, true, false, List, length};
+ghost use Rattle.std.specs.Prelude.{◌≡◌, ℕ, true, false, List, length};
 ghost use Rattle.decoder.specs.Alone.{live, powered};
 ghost use Rattle.bank.specs.Banks.{ChangedBelow, Turned, has_records, unless_short};
 ghost use Rattle.bank.specs.Kinds.{is_kind};

@@ -13,6 +13,7 @@ use packet::CvNumber;
 ///
 /// An inner call of the board. Refused, and nothing changes, where the bank has no record of that
 /// number or the memory not the slot's window.
+// The clauses that hang on `is_there` are not those of `Fits`: a record changes with the window, and both are refused.
 pub fn set_variable<T: Variables, M: Memory>(
     bank: &mut [T],
     number: usize,

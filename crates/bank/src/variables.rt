@@ -1,9 +1,11 @@
 ghost use Rattle.std.specs.Prelude.{◌≡◌, ℕ, ◌+◌, ◌≤◌};
-ghost use Rattle.decoder.specs.Accesses.{barred};
+ghost use Rattle.decoder.specs.Accesses.{barred as barred_of};
 
 use crate::listener::Listener;
+use decoder::barred;
 
 /// A decoder of any kind, by where its own variables begin.
+// The offset is no constant of `View`, where no law could tie it to the rules of a kind.
 pub trait Variables: Listener {
     ghost OFFSET: { ℕ };
 
@@ -30,7 +32,7 @@ pub fn reply_variable<T: Variables>() -> u16
 
 /// Whether packets never write the variable of that number.
 pub fn is_read_only<T: Variables>(number: u16) -> bool
-    ensures { result ≡ barred T.Listener.rules.offset number }
+    ensures { result ≡ barred_of T.Listener.rules.offset number }
 {
-    number == T::OFFSET + 7 || number == T::OFFSET + 8
+    barred(T::OFFSET, number)
 }

@@ -50,14 +50,11 @@ impl View for AccessoryView {
 }
 
 impl<M: Memory> Window<'_, M> {
-    /// The variable that an access names, or 0.
-    fn named(&mut self, access: Option<Access>) -> u8
+    /// The variable that an access names, if there is one.
+    fn named(&mut self, access: Option<Access>) -> Option<u8>
         ensures answer { result ≡ named_in (variables self.old) access }
         ensures kept { Unchanged self.old self.new }
     {
-        match access {
-            Some(access) => self.get(access.cv),
-            None => 0,
-        }
+        Some(self.get(access?.cv))
     }
 }

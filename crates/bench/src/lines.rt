@@ -4,18 +4,10 @@ use state::{MobileState, Speed};
 use std::fmt;
 use words::NumbersOn;
 
-/// What came of a block and the states of the decoders. It prints the states first; a refused block tells its number alone.
+/// What came of a block and the states of the decoders. It prints the states first; a refused block tells its number
+/// alone.
 #[derive(Clone, Copy)]
 pub struct Shown<'a>(pub &'a [Result<Answer, Fault>]);
-
-/// The switches that are on.
-fn numbers_on(switches: &[bool]) -> NumbersOn<'_> {
-    NumbersOn {
-        first: 0,
-        switches,
-        none: "-",
-    }
-}
 
 fn mobile<W: fmt::Write>(state: &MobileState, f: &mut fmt::Formatter<W>) -> fmt::Result {
     let direction = if state.forward { "f" } else { "r" };
@@ -25,7 +17,7 @@ fn mobile<W: fmt::Write>(state: &MobileState, f: &mut fmt::Formatter<W>) -> fmt:
         Speed::EmergencyStop => write!(f, "halt")?,
         Speed::Running(step) => write!(f, "{}/{}", step.number(), step.scale().steps())?,
     }
-    let on = numbers_on(&state.functions.on);
+    let on = NumbersOn::from_zero(&state.functions.on, "-");
     writeln!(f, " on {on}")
 }
 
@@ -33,11 +25,11 @@ fn decoder<W: fmt::Write>(state: &DecoderState, f: &mut fmt::Formatter<W>) -> fm
     match state {
         DecoderState::Mobile(state) => mobile(state, f),
         DecoderState::Basic(state) => {
-            let on = numbers_on(&state.outputs);
+            let on = NumbersOn::from_zero(&state.shown, "-");
             writeln!(f, "basic 1 on {on}")
         }
         DecoderState::Extended(state) => {
-            let aspect = state.aspect;
+            let aspect = state.shown;
             writeln!(f, "extended 1 aspect {aspect}")
         }
     }

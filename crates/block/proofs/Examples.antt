@@ -1,7 +1,8 @@
 -- What some short blocks say.
 use Rattle.std.proofs.Common.{◌≡◌, [], ◌∷◌, refl}
 use Rattle.fault.specs.declared.refusal.Refusal.TheVariants.{UnknownKind, BodyCutOff, NonzeroFill}
-use Rattle.block.specs.Contents.{first_nonzero, fault_at}
+use Rattle.fault.specs.Places.{fault_at}
+use Rattle.block.specs.Contents.{first_nonzero}
 use Rattle.block.specs.Contents.Thing.{power_up, packet}
 use Rattle.block.specs.Reading.{read_on, reading}
 use Rattle.block.specs.Reading.Reading.{done, filled, broken, more}

@@ -6,7 +6,8 @@ use Rattle.std.specs.List.{filter_map, cons_option}
 use Rattle.std.specs.Option.{ok_or, option_map}
 use Rattle.fault.specs.declared.fault.Fault.{Fault}
 use Rattle.fault.specs.declared.refusal.Refusal.TheVariants.{NumberOutOfRange}
-use Rattle.block.specs.Contents.{Thing, Placed, fault_at}
+use Rattle.fault.specs.Places.{fault_at}
+use Rattle.block.specs.Contents.{Thing, Placed}
 use Rattle.block.specs.Contents.Thing.{fill, power_up, packet}
 use Rattle.block.specs.Handing.{packet_place, bytes_at, bytes_in}
 use Rattle.block.specs.Reading.{Reading, reading, carried}

@@ -1,6 +1,8 @@
 -- What `filter_map` gives, where w reads the items that its closure makes.
 use Rattle.std.proofs.Common.{◌≡◌, true, false, List, [], ◌∷◌, Some, None, Option, option_map, MatchOption, sym, refl, ap, ◌∙◌, subst}
+use Rattle.std.proofs.lemmas.Bool.{false≢true}
 use Rattle.std.proofs.lemmas.Iterator.{YieldsList}
+use Rattle.std.proofs.lemmas.Option.{none-some}
 use Rattle.std.specs.Fn.{Called}
 use Rattle.std.specs.Iterator.{AlwaysYields, Yields}
 use Rattle.std.specs.Iterator.Adapters.{filter_map_source, filter_map_callee, filter_map_steps}
@@ -24,11 +26,11 @@ module _ {S A B C D F : Type 0} (steps : S → Option A → S → Type 0) (v : A
   ended : (ys : List B) (t u : S) (P : Type 0) (Q : A → Type 0) (o : Option A) → AlwaysYields steps v t ys → steps t o u → MatchOption o P (λ x. Q x × (false ≡ true)) → filter_map h ys ≡ []
   ended [] t u P Q None e y c = refl
   ended (z ∷ zs) t u P Q None e y c = absurd (e.0 u y)
-  ended ys t u P Q (Some x) e y c = let f : false ≡ true = c.1 in cc
+  ended ys t u P Q (Some x) e y c = absurd (false≢true c.1)
 
   came : (ys : List B) (t u : S) (p q : F) (y : C) (o : Option A) → p ≡ f → AlwaysYields steps v t ys → steps t o u → MatchOption o ((Some y ≡ None) × (q ≡ p)) (λ x. Called g p (x, tt) (Some y) q × IsSome (Some y))
       → (zs : List B) × (q ≡ f) × (filter_map h ys ≡ w y ∷ filter_map h zs) × AlwaysYields steps v u zs
-  came ys t u p q y None a e st c = absurd (let n : Some y ≡ None = c.0 in cc)
+  came ys t u p q y None a e st c = absurd (none-some y (sym c.0))
   came [] t u p q y (Some x) a e st c = absurd (e x u st)
   came (z ∷ zs) t u p q y (Some x) a e st c =
       let n = e.1 x u st in

@@ -4,7 +4,8 @@ use Rattle.std.proofs.lemmas.List.{length-take-le}
 use Rattle.std.proofs.lemmas.Bool.{cond_both, eqb-true, eqb-false, ltb-true, ltb-false, leb-true, leb-false, and_parts, and_cases}
 use Rattle.fault.specs.declared.fault.Fault.{Fault}
 use Rattle.fault.specs.declared.refusal.Refusal.TheVariants.{UnknownKind, BodyCutOff, NonzeroFill}
-use Rattle.block.specs.Contents.{Thing, Placed, fault_at, first_nonzero, fill_unless, thing_of, placed, ends_at, record_at, kind_is_packet}
+use Rattle.fault.specs.Places.{fault_at}
+use Rattle.block.specs.Contents.{Thing, Placed, first_nonzero, fill_unless, thing_of, placed, ends_at, record_at, kind_is_packet}
 use Rattle.block.specs.Contents.Thing.{fill, power_up, packet}
 
 pub record Whole (k : ℕ) (xs p : List ℕ) : Type 0 where

@@ -1,22 +1,24 @@
 -- What a survey comes to with what is left of its block.
-use Rattle.std.proofs.Common.{◌≡◌, ℕ, ◌+◌, List, Option, add-zero, rules}
+use Rattle.std.proofs.Common.{◌≡◌, ℕ, ◌+◌, ◌≤◌, List, length, None, Option, add-zero}
 use Rattle.fault.specs.declared.fault.Fault.{Fault}
 use Rattle.block.specs.declared.summary.Survey.{Survey}
-use Rattle.block.specs.Contents.Thing.{power_up, packet}
-use Rattle.block.specs.Reading.{Reading, carried, end_of, fault_of}
-use Rattle.block.specs.Reading.Reading.{more}
-use Rattle.block.specs.Summing.{packet_count, power_up_count}
+use Rattle.block.specs.declared.walk.Walk.{Walk}
+use Rattle.block.specs.Reading.{Reading, reading, reading_from, carried, end_of, fault_of}
+use Rattle.block.specs.Summing.{packet_count, power_up_count, summed}
+use Rattle.block.specs.Walking.{walked, stands_at}
 
 -- of a block of n bytes
 abbrev pub added : ℕ → Survey → Reading → Survey
 added n s r = record { packets = s.packets + packet_count (carried r); power_ups = s.power_ups + power_up_count (carried r); end = end_of n r; fault = fault_of r }
 
-module _ (n o e : ℕ) (s : Survey) (r : Reading) where
-  pub added_packet : (q : List ℕ) → added n (record s { packets = s.packets + 1; end = e }) r ≡ added n s (more o (packet q) r)
-  added_packet q = search rules
-
-  pub added_power_up : added n (record s { power_ups = s.power_ups + 1; end = e }) r ≡ added n s (more o power_up r)
-  added_power_up = search rules
+-- of the block b: the walk stands at s, and the survey so far is v
+pub record Going (b : List ℕ) (s : Walk) (v : Survey) : Type 0 where
+  pub sums : added (length b) v (reading_from b v.end) ≡ summed (length b) (reading b)
+  pub over : walked s ≡ b
+  pub at : stands_at s ≡ v.end
+  pub inside : v.end ≤ length b
+  pub counted : v.packets + v.power_ups ≤ v.end
+  pub sound : v.fault ≡ None
 
 -- nothing more is counted
 pub added_none : (s : Survey) (e : ℕ) (f : Option Fault) → s.end ≡ e → s.fault ≡ f → s ≡ record { packets = s.packets + 0; power_ups = s.power_ups + 0; end = e; fault = f }

@@ -1,11 +1,10 @@
 -- What a reading tells of its block.
-use Rattle.std.proofs.Common.{◌≡◌, ℕ, zero, suc, ◌+◌, ◌<◌, ◌≤◌, true, false, List, [], ◌∷◌, length, get_or, take, drop, Some, None, Ok, Err, Result, sym, refl, ap, ◌∙◌, subst, inl, inr, ⊎_elim, arith, length-drop}
+use Rattle.std.proofs.Common.{◌≡◌, ℕ, zero, suc, ◌+◌, ◌<◌, ◌≤◌, true, List, [], ◌∷◌, length, get_or, take, drop, Some, None, Ok, Err, Result, sym, refl, ap, ◌∙◌, subst, inl, inr, ⊎_elim, arith, length-drop}
 use Rattle.std.proofs.lemmas.List.{drop_more}
-use Rattle.std.proofs.lemmas.Bool.{cases_lt, cond-true, cond-false, eq-eqb}
+use Rattle.std.proofs.lemmas.Bool.{cases_lt, cond-true, eq-eqb}
 use Rattle.std.specs.List.{AllByRecursion}
 use Rattle.fault.specs.declared.fault.Fault.{Fault}
-use Rattle.fault.specs.declared.refusal.Refusal.TheVariants.{BlockLength}
-use Rattle.block.specs.Contents.{Thing, fault_at, is_block_length, first_nonzero_from, fill_unless, thing_of, placed}
+use Rattle.block.specs.Contents.{Thing, is_block_length, first_nonzero_from, fill_unless, thing_of, placed}
 use Rattle.block.specs.Contents.Thing.{fill, power_up, packet}
 use Rattle.block.specs.Reading.{Reading, reading, reading_from, carried, end_of, fault_of}
 use Rattle.block.specs.Reading.Reading.{filled, broken}
@@ -82,7 +81,7 @@ fill_reads b lt here rest =
     let is : thing_of 0 (get_or b 0 0) (drop 1 b) ≡ Ok fill = cond-true _ _ _ (eq-eqb (get_or b 0 0) 0 here) ∙ ap fill_unless (nonzero_none 1 (drop 1 b) rest) in
     reads_on b 0 lt ∙ ap (λ r. onward b 0 (placed b 0 r)) is
 
-fill_carries_none : (b : List ℕ) → AllByRecursion (λ x. x ≡ 0) b → (carried (reading b) ≡ []) × (fault_of (reading b) ≡ None)
+pub fill_carries_none : (b : List ℕ) → AllByRecursion (λ x. x ≡ 0) b → (carried (reading b) ≡ []) × (fault_of (reading b) ≡ None)
 fill_carries_none [] h = let e = reads_end [] 0 (omega arith) in (ap carried e, ap fault_of e)
 fill_carries_none (x ∷ xs) h = let e = fill_reads (x ∷ xs) (omega arith) h.0 h.1 in (ap carried e, ap fault_of e)
 
@@ -107,14 +106,4 @@ survey_tells b s good e =
       tiles = subst (λ t. SurveyTiles b (Ok t)) (sym e) (sound b).0;
       ends = subst (λ t. SurveyEnds b (Ok t)) (sym e) (sound b).1;
       nothing = fill_counts_none b s e;
-    }
-
--- of a block that is refused
-pub survey_refuses : (b : List ℕ) (f : Fault) → is_block_length (length b) ≡ false → f ≡ fault_at BlockLength 0 → Surveys b (Err f)
-survey_refuses b f bad e =
-    record {
-      is = ap Err e ∙ sym (cond-false _ _ _ bad);
-      tiles = tt;
-      ends = tt;
-      nothing = λ h. let n = fill_carries_none b h in (n.0, n.1, tt);
     }

@@ -1,27 +1,17 @@
 -- What the calls of `next` give, one after the other.
-use Rattle.std.proofs.Common.{◌≡◌, ℕ, ◌<◌, ◌≤◌, Bool, true, false, cond, List, [], ◌∷◌, length, Some, None, Ok, Err, Option, Result, sym, refl, ap, ◌∙◌, subst, arith}
+use Rattle.std.proofs.Common.{◌≡◌, ℕ, ◌<◌, ◌≤◌, List, [], ◌∷◌, length, Some, None, Ok, Err, Option, Result, sym, refl, ap, ◌∙◌, subst, arith}
 use Rattle.std.proofs.lemmas.Iterator.Consumers.{YieldsList-from_shown}
 use Rattle.std.specs.Iterator.{AlwaysYields}
 use Rattle.fault.specs.declared.fault.Fault.{Fault}
-use Rattle.fault.specs.declared.refusal.Refusal.TheVariants.{BlockLength}
 use Rattle.block.specs.declared.records.Carried.{Carried}
 use Rattle.block.specs.declared.walk.Walk.{Walk}
-use Rattle.block.specs.Contents.{Thing, Placed, record_at, ends_at, found, placed_in, thing_in, length_checked, is_block_length, fault_at}
+use Rattle.block.specs.Contents.{Thing, Placed, record_at, ends_at, found, placed_in, thing_in}
 use Rattle.block.specs.Contents.Thing.{fill, power_up, packet}
 use Rattle.block.specs.Reading.{reading_from}
 use Rattle.block.specs.Reading.Reading.{done, broken}
 use Rattle.block.specs.Walking.{walked, stands_at, item_of, item_in, given_in, afterwards, Advances, item_at, items_of}
 use Rattle.block.proofs.Shapes.{Told, told, told_as, later, ends_inside}
 use Rattle.block.proofs.Steps.{passing, onward, reads, reads_as, reads_end}
-
--- ---- the length
-
-pub length_good : (n : ℕ) (u : Unit {0}) → Ok u ≡ length_checked n → is_block_length n ≡ true
-length_good n u e = go (is_block_length n) e
-  where
-    go : (t : Bool) → Ok u ≡ cond t (Ok tt) (Err (fault_at BlockLength 0)) → t ≡ true
-    go true h = refl
-    go false h = cc
 
 -- ---- one call
 

@@ -1,15 +1,11 @@
 -- What stands at one place of a block.
 use Rattle.std.specs.Prelude.{ℕ, ◌+◌, ◌<◌, ◌≤◌, Bool, cond, ◌&&◌, List, [], ◌∷◌, length, take, drop, Some, None, Ok, Err, Option, Result, ◌==◌, nat_le, nat_lt, slice_index}
 use Rattle.fault.specs.declared.fault.Fault.{Fault}
-use Rattle.fault.specs.declared.refusal.Refusal.{Refusal}
 use Rattle.fault.specs.declared.refusal.Refusal.TheVariants.{BlockLength, UnknownKind, BodyCutOff, NonzeroFill}
+use Rattle.fault.specs.Places.{fault_at}
 use Rattle.block.specs.declared.records.Record.{Record}
 use Rattle.block.specs.declared.records.Record.TheVariants.{Fill, PowerUp, Packet}
 use Rattle.block.specs.declared.records.Carried.{Carried}
-
--- the refusal r, which stands at o
-abbrev pub fault_at : Refusal → ℕ → Fault
-fault_at r o = record { refusal = r; offset = o }
 
 -- a block has 1 to 512 bytes
 abbrev pub is_block_length : ℕ → Bool

@@ -3,7 +3,8 @@ use Rattle.std.specs.Prelude.{ℕ, ◌+◌, ◌-◌, cond, List, [], ◌∷◌, 
 use Rattle.std.specs.Borrow.{Bor}
 use Rattle.fault.specs.declared.fault.Fault.{Fault}
 use Rattle.fault.specs.declared.refusal.Refusal.TheVariants.{BlockLength, NumberOutOfRange}
-use Rattle.block.specs.Contents.{Thing, is_block_length, fault_at}
+use Rattle.fault.specs.Places.{fault_at}
+use Rattle.block.specs.Contents.{Thing, is_block_length}
 use Rattle.block.specs.Contents.Thing.{fill, power_up, packet}
 use Rattle.block.specs.Reading.{reading, carried}
 

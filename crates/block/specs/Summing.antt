@@ -3,7 +3,8 @@ use Rattle.std.specs.Prelude.{ℕ, suc, cond, List, [], ◌∷◌, length, Ok, E
 use Rattle.fault.specs.declared.fault.Fault.{Fault}
 use Rattle.fault.specs.declared.refusal.Refusal.TheVariants.{BlockLength}
 use Rattle.block.specs.declared.summary.Survey.{Survey}
-use Rattle.block.specs.Contents.{Thing, is_block_length, fault_at}
+use Rattle.fault.specs.Places.{fault_at}
+use Rattle.block.specs.Contents.{Thing, is_block_length}
 use Rattle.block.specs.Contents.Thing.{fill, power_up, packet}
 use Rattle.block.specs.Reading.{Reading, reading, carried, end_of, fault_of}
 

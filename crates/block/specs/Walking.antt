@@ -5,7 +5,8 @@ use Rattle.fault.specs.declared.fault.Fault.{Fault}
 use Rattle.fault.specs.declared.refusal.Refusal.TheVariants.{BlockLength}
 use Rattle.block.specs.declared.records.Carried.{Carried}
 use Rattle.block.specs.declared.walk.Walk.{Walk}
-use Rattle.block.specs.Contents.{Thing, Placed, placed_in, record_at, ends_at, is_block_length, fault_at}
+use Rattle.fault.specs.Places.{fault_at}
+use Rattle.block.specs.Contents.{Thing, Placed, placed_in, record_at, ends_at, is_block_length}
 use Rattle.block.specs.Contents.Thing.{fill}
 use Rattle.block.specs.Reading.{Reading, reading}
 use Rattle.block.specs.Reading.Reading.{done, filled, broken, more}

@@ -9,9 +9,6 @@ pub fn check_length(block: &[u8]) -> Result<(), Fault>
 {
     match block.len() {
         1..=512 => Ok(()),
-        _ => Err(Fault {
-            refusal: Refusal::BlockLength,
-            offset: 0,
-        }),
+        _ => Err(Refusal::BlockLength.into()),
     }
 }

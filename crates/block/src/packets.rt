@@ -7,7 +7,8 @@ use fault::{Fault, Refusal};
 
 /// The packet that `n` others stand before, as the very part of the block that holds it.
 ///
-/// It counts the packets that the block carries, those before its fill or its first fault, and tells no fault of the block but that of its length.
+/// It counts the packets that the block carries, those before its fill or its first fault, and tells no fault of the
+/// block but that of its length.
 pub fn packet_at<'a>(block: &'a [u8], n: usize) -> Result<&'a [u8], Fault>
     ensures { bytes_in result ≡ handed_out block.now n }
 {
@@ -17,8 +18,5 @@ pub fn packet_at<'a>(block: &'a [u8], n: usize) -> Result<&'a [u8], Fault>
             Record::PowerUp | Record::Fill => None,
         })
         .nth(n)
-        .ok_or(Fault {
-            refusal: Refusal::NumberOutOfRange,
-            offset: 0,
-        })
+        .ok_or(Refusal::NumberOutOfRange.into())
 }

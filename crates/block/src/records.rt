@@ -25,6 +25,7 @@ pub struct Carried<'a> {
 }
 
 /// Where the first byte that is not zero stands, from `offset` on.
+#[tactic(auto, using(crate::proofs::Fills::nonzero_end))]
 fn first_nonzero(block: &[u8], offset: usize) -> Option<usize>
     ensures { result ≡ first_nonzero_from block.now offset }
 {
@@ -45,31 +46,18 @@ pub fn record_at<'a>(block: &'a [u8], offset: usize) -> Result<Option<Carried<'a
     };
     let (record, next) = match kind {
         0x00 => match first_nonzero(block, offset + 1) {
-            Some(at) => {
-                return Err(Fault {
-                    refusal: Refusal::NonzeroFill,
-                    offset: at,
-                });
-            }
+            Some(at) => return Err(Refusal::NonzeroFill.at(at)),
             None => (Record::Fill, block.len()),
         },
         0x10 => (Record::PowerUp, offset + 1),
         0x03..=0x06 => {
             let next = offset + 1 + usize::from(kind);
-            let Some(body) = block.get(offset + 1..next) else {
-                return Err(Fault {
-                    refusal: Refusal::BodyCutOff,
-                    offset,
-                });
-            };
+            let body = block
+                .get(offset + 1..next)
+                .ok_or(Refusal::BodyCutOff.at(offset))?;
             (Record::Packet(body), next)
         }
-        _ => {
-            return Err(Fault {
-                refusal: Refusal::UnknownKind,
-                offset,
-            });
-        }
+        _ => return Err(Refusal::UnknownKind.at(offset)),
     };
     Ok(Some(Carried {
         offset,

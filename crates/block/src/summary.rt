@@ -1,7 +1,7 @@
 use fault::Fault;
 
 /// What a block carries.
-#[derive(Clone, Copy, PartialEq, Eq, Debug)]
+#[derive(Clone, Copy, PartialEq, Eq, Debug, Default)]
 pub struct Survey {
     /// How many packets the block carries.
     pub packets: usize,

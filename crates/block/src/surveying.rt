@@ -8,18 +8,16 @@ use crate::walk::Walk;
 use fault::Fault;
 
 /// Counts what a block carries, and says where that ends and why.
+#[tactic(auto, using(crate::proofs::Tilings::fill_carries_none))]
 pub fn survey(block: &[u8]) -> Result<Survey, Fault>
     ensures is { result ≡ surveyed block.now }
     ensures tiles { SurveyTiles block.now result }
     ensures ends { SurveyEnds block.now result }
     ensures nothing { FillIsNothing block.now result }
 {
-    let mut survey = Survey {
-        packets: 0,
-        power_ups: 0,
-        end: 0,
-        fault: None,
-    };
+    let mut survey = Survey::default();
+    // One loop for all four fields: a chain for each would go through the block four times, and a `fold` would need this very
+    // `match`, and not end at fill.
     for item in Walk::new(block)? {
         match item {
             Ok(carried) => match carried.record {

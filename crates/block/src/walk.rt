@@ -8,7 +8,8 @@ use fault::Fault;
 
 /// Goes through a block record by record.
 ///
-/// Its items are the records in order, fill too where only zero bytes follow it. Where the block is at fault, that fault is the last item.
+/// Its items are the records in order, fill too where only zero bytes follow it. Where the block is at fault, that
+/// fault is the last item.
 #[derive(Drop)]
 pub struct Walk<'a> {
     block: &'a [u8],

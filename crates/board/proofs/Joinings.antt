@@ -1,36 +1,32 @@
 -- One decoder more at the end of the slots.
-use Rattle.std.proofs.Common.{◌≡◌, ℕ, ◌+◌, ◌*◌, ◌<◌, ◌≤◌, Bool, true, false, cond, ◌&&◌, ltb, leb, List, [], ◌∷◌, ◌++◌, map, length, get_or, set, Ok, Err, sym, refl, ap, ◌∙◌, subst, ap₂, arith}
+use Rattle.std.proofs.Common.{◌≡◌, ℕ, ◌+◌, ◌*◌, ◌<◌, ◌≤◌, Bool, true, false, cond, ◌&&◌, ltb, leb, List, [], ◌∷◌, ◌++◌, map, length, get_or, set, Ok, Err, Result, sym, refl, ap, ◌∙◌, subst, ap₂, is_err, true≢false, arith}
 use Rattle.std.specs.List.{range_with_len}
 use Rattle.std.proofs.lemmas.List.{same_lists, get_or_append_left, get_or_push, length_push, length-set, get_or-set_same, get_or-set_other}
 use Rattle.std.proofs.lemmas.List.FromFn.{length-map-range_with_len, get_or-map-range_with_len, map-range_with_len_more}
-use Rattle.std.proofs.lemmas.Bool.{ltb-true, leb-true, le-leb, and_parts, and_from, eq-eqb}
+use Rattle.std.proofs.lemmas.Bool.{ltb-true, leb-true, and_parts}
+use Rattle.fault.specs.declared.fault.Fault.{Fault}
 use Rattle.fault.specs.declared.refusal.Refusal.TheVariants.{FittedAddress, BankFull, TooFewCells}
 use Rattle.memory.specs.Cells.{Outside}
-use Rattle.state.specs.Starting.{mobile_start, basic_start, extended_start}
-use Rattle.decoder.specs.declared.records.Mobile as mobile-record
-use Rattle.decoder.specs.declared.records.Basic as basic-record
-use Rattle.decoder.specs.declared.records.Extended as extended-record
-use Rattle.decoder.specs.declared.role.Address.{Address}
-use Rattle.decoder.specs.Alone.{own}
+use Rattle.decoder.specs.Alone.{Own, own}
 use Rattle.decoder.specs.Fitted.{mobile_fitted, basic_fitted, extended_fitted}
 use Rattle.bank.specs.declared.kind.Kind.{Kind}
-use Rattle.bank.specs.declared.kind.Kind.TheVariants.{Mobile, Basic, Extended}
+use Rattle.bank.specs.declared.kind.Kind.TheVariants.{Mobile}
 use Rattle.bank.specs.Kinds.{same_kind, is_kind, count_below, count_of}
-use Rattle.bank.specs.Windows.{window, Wrote}
+use Rattle.bank.specs.Windows.{window}
 use Rattle.bank.proofs.Counts.{count_more, count_less}
-use Rattle.bank.proofs.Turns.{kept_beyond}
 use Rattle.script.specs.declared.fit.Fit.{Fit}
 use Rattle.script.specs.declared.fit.Fit.TheVariants as fits
-use Rattle.script.specs.Decoders.{Decoder, refused_by}
-use Rattle.script.specs.Decoders.Decoder.{mobile, basic, extended}
-use Rattle.script.specs.Boards.{Lent, lent, is_lent, decoder_in, decoder_at, decoders}
-use Rattle.script.specs.Fittings.{fit_kind, is_address, fitting_in}
+use Rattle.script.specs.Decoders.{Decoder, RecordOf, decoder_as, refused_by}
+use Rattle.script.specs.Boards.{Lent, bank_of, bank_size, spare_of, is_lent, decoder_in, decoder_at, decoders}
+use Rattle.script.specs.Fittings.{fit_kind, fitted, is_address, fitting_in, fitting}
 use Rattle.script.proofs.Names.{same_self}
 use Rattle.roster.proofs.Counts.{count_cong}
-use Rattle.roster.proofs.Sendings.{enough}
-use Rattle.roster.proofs.Decks.{is_kind_lem}
-use Rattle.board.specs.Slots.{AddedAs}
-use Rattle.board.specs.Joins.{Joined}
+use Rattle.roster.proofs.Alike.{one_and_others, SameBanksBut, with_bank, others_stay, same_lent}
+use Rattle.roster.proofs.Decks.{SameRecord, is_kind_lem}
+use Rattle.roster.proofs.Askings.{wrote_beyond}
+use Rattle.roster.proofs.Sendings.{Enough, enough, lent_from}
+use Rattle.board.specs.Slots.{AddedAs, Added}
+use Rattle.board.specs.Joins.{Joined, Joins}
 
 -- ---- an accepted fitting
 
@@ -47,9 +43,9 @@ has_room places cells ks f j e = go (is_address f) (ltb (length ks) 32 && ltb (c
         let n : count_of ks (fit_kind f) ≡ j = cc in
         let low = ltb-true (count_of ks (fit_kind f)) places (and_parts (ltb (length ks) 32) (ltb (count_of ks (fit_kind f)) places) p).1 in
         record { number = n; place = omega arith; window = leb-true (1024 * length ks + 1024) cells q }
-    go true true p false q e = let z : ◌≡◌ {A = ℕ} 0 1 = cc in absurd (omega arith)
-    go true false p c q e = let z : ◌≡◌ {A = ℕ} 0 1 = cc in absurd (omega arith)
-    go false b p c q e = let z : ◌≡◌ {A = ℕ} 0 1 = cc in absurd (omega arith)
+    go true true p false q e = absurd (true≢false (ap is_err e))
+    go true false p c q e = absurd (true≢false (ap is_err e))
+    go false b p c q e = absurd (true≢false (ap is_err e))
 
 -- ---- kinds
 
@@ -86,22 +82,12 @@ module _ (ks : List Kind) (k : Kind) (l l' : Lent) where
   abbrev ks' : List Kind
   ks' = ks ++ k ∷ []
 
-  -- the record of the slot s stands in the bank of its kind as before
-  abbrev Same : Kind → ℕ → Type 0
-  Same Mobile s = (x : mobile-record.Mobile) → get_or l'.mobiles (count_below (is_kind ks Mobile) s) x ≡ get_or l.mobiles (count_below (is_kind ks Mobile) s) x
-  Same Basic s = (x : basic-record.Basic) → get_or l'.basics (count_below (is_kind ks Basic) s) x ≡ get_or l.basics (count_below (is_kind ks Basic) s) x
-  Same Extended s = (x : extended-record.Extended) → get_or l'.extendeds (count_below (is_kind ks Extended) s) x ≡ get_or l.extendeds (count_below (is_kind ks Extended) s) x
-
-  same_in : (j : Kind) (s : ℕ) → s < length ks → Same j s → window l'.cells s ≡ window l.cells s → decoder_in j ks' l' s ≡ decoder_in j ks l s
-  same_in Mobile s low r w = ap₂ (λ x w. mobile (own x w)) (ap (λ n. get_or l'.mobiles n (record { state = mobile_start })) (count_before ks k Mobile s (omega arith)) ∙ r (record { state = mobile_start })) w
-  same_in Basic s low r w = ap₂ (λ x w. basic (own x w)) (ap (λ n. get_or l'.basics n (record { address = 0; state = basic_start })) (count_before ks k Basic s (omega arith)) ∙ r (record { address = 0; state = basic_start })) w
-  same_in Extended s low r w = ap₂ (λ x w. extended (own x w)) (ap (λ n. get_or l'.extendeds n (record { address = 0; state = extended_start })) (count_before ks k Extended s (omega arith)) ∙ r (record { address = 0; state = extended_start })) w
-
-  same_at : (s : ℕ) → s < length ks → ((j : Kind) → is_kind ks j s ≡ true → Same j s) → window l'.cells s ≡ window l.cells s → decoder_at ks' l' s ≡ decoder_at ks l s
+  same_at : (s : ℕ) → s < length ks → ((i : Kind) → SameRecord ks l l' s i) → window l'.cells s ≡ window l.cells s → decoder_at ks' l' s ≡ decoder_at ks l s
   unfolding decoder_at
   same_at s low r w =
+      let i = get_or ks s Mobile in
       ap (λ j. decoder_in j ks' l' s) (kind_before ks k s low)
-      ∙ same_in (get_or ks s Mobile) s low (r (get_or ks s Mobile) (is_kind_lem ks (get_or ks s Mobile) s refl)) w
+      ∙ ap₂ (λ x w. decoder_as i (own x w)) (ap (λ n. get_or (bank_of i l') n (spare_of i)) (count_before ks k i s (omega arith)) ∙ r i (is_kind_lem ks i s refl) (spare_of i)) w
 
   last_at : decoder_at ks' l' (length ks) ≡ decoder_in k ks' l' (length ks)
   unfolding decoder_at
@@ -133,120 +119,77 @@ module _ {X : Type 0} (ks : List Kind) (k : Kind) (bank : List X) (r : X) (j : �
   set_beyond : (x : X) (i : ℕ) → count_of (ks ++ k ∷ []) k ≤ i → get_or (set bank j r) i x ≡ get_or bank i x
   set_beyond x i past = let e = count_last ks k k ∙ ap (λ b. count_of ks k + cond b 1 0) (same_self k) in get_or-set_other bank j i r x (λ q. omega arith)
 
--- no cell beyond the slots is written
-cells_beyond : {cells cells' w : List ℕ} (n : ℕ) → Wrote cells cells' n w → (i : ℕ) → 1024 * (n + 1) ≤ i → get_or cells' i 0 ≡ get_or cells i 0
-cells_beyond {cells} {cells'} n wrote =
-    kept_beyond (record { size = wrote.size; there = λ t no. wrote.there t (λ e. no (omega (arith, e)) (eq-eqb t n e)) })
+-- ---- the decoder that a fitting makes
 
-pub is_lent_lem : (ks : List Kind) (l : Lent) → count_of ks Mobile ≤ length l.mobiles → count_of ks Basic ≤ length l.basics → count_of ks Extended ≤ length l.extendeds → 1024 * length ks ≤ length l.cells → is_lent ks l ≡ true
-is_lent_lem ks l a b c d =
-    and_from _ _ (le-leb (count_of ks Mobile) (length l.mobiles) a)
-    (and_from _ _ (le-leb (count_of ks Basic) (length l.basics) b)
-    (and_from _ _ (le-leb (count_of ks Extended) (length l.extendeds) c) (le-leb (1024 * length ks) (length l.cells) d)))
+abbrev pub fitted_own : (f : Fit) → Own (RecordOf (fit_kind f))
+fitted_own (fits.Mobile a) = mobile_fitted a
+fitted_own (fits.Basic a) = basic_fitted a
+fitted_own (fits.Extended a) = extended_fitted a
 
--- ---- one more of each kind
+fitted_is : (f : Fit) → decoder_as (fit_kind f) (fitted_own f) ≡ fitted f
+fitted_is (fits.Mobile a) = refl
+fitted_is (fits.Basic a) = refl
+fitted_is (fits.Extended a) = refl
 
-module _ (ks : List Kind) (ms : List mobile-record.Mobile) (bs : List basic-record.Basic) (es : List extended-record.Extended) (c c' : List ℕ) (o o' : List Outside) (out : o' ≡ o) (j : ℕ) where
-  abbrev l₀ : Lent
-  l₀ = lent ms bs es c o
+module _ (f : Fit) (ks ks₁ : List Kind) (l l' : Lent) (others : SameBanksBut (fit_kind f) l l') (outside : l'.outside ≡ l.outside) where
+  abbrev k : Kind
+  k = fit_kind f
 
-  module _ (a : Address) (ks₁ : List Kind) (ms' : List mobile-record.Mobile) (room : Room (length ms) (length c) ks Mobile j) (added : AddedAs Mobile (mobile_fitted a) ks ms c ks₁ ms' c' j) where
-    abbrev l_mobile : Lent
-    l_mobile = lent ms' bs es c' o'
+  abbrev new : Own (RecordOf k)
+  new = fitted_own f
 
-    same_mobile : (s : ℕ) → s < length ks → (i : Kind) → is_kind ks i s ≡ true → Same ks Mobile l₀ l_mobile i s
-    same_mobile s low Mobile h = λ x. ap (λ b. get_or b (count_below (is_kind ks Mobile) s) x) added.records ∙ set_before ks Mobile ms (mobile_fitted a).rec j room.number room.place s low h x
-    same_mobile s low Basic h = λ x. refl
-    same_mobile s low Extended h = λ x. refl
+  module _ (j : ℕ) (room : Room (bank_size k l) (length l.cells) ks k j) (added : AddedAs k new ks (bank_of k l) l.cells ks₁ (bank_of k l') l'.cells j) where
+    before : (s : ℕ) → s < length ks → (i : Kind) → SameRecord ks l l' s i
+    before s low =
+        one_and_others (SameRecord ks l l' s) k
+        (λ h x. ap (λ b. get_or b (count_below (is_kind ks k) s) x) added.records ∙ set_before ks k (bank_of k l) new.rec j room.number room.place s low h x)
+        (λ i q h x. ap (λ b. get_or b (count_below (is_kind ks i) s) x) (others i q))
 
-    pub join_mobile : Joined (fits.Mobile a) ks l₀ ks₁ l_mobile
-    join_mobile =
-        let wrote = added.variables in
-        subst (λ q. Joined (fits.Mobile a) ks l₀ q l_mobile) (sym added.kinds) (record {
+    last : decoder_in k (ks ++ k ∷ []) l' (length ks) ≡ fitted f
+    last =
+        ap₂ (λ r w. decoder_as k (own r w)) (ap (λ b. get_or b (count_below (is_kind (ks ++ k ∷ []) k) (length ks)) (spare_of k)) added.records ∙ set_last ks k (bank_of k l) new.rec j room.number room.place (spare_of k)) added.variables.here
+        ∙ fitted_is f
+
+    sizes : (i : Kind) → bank_size i l' ≡ bank_size i l
+    sizes = one_and_others (λ i. bank_size i l' ≡ bank_size i l) k (ap length added.records ∙ length-set (bank_of k l) j new.rec) (λ i q. ap length (others i q))
+
+    enough_places : Enough ks l → (i : Kind) → count_of (ks ++ k ∷ []) i ≤ bank_size i l'
+    enough_places e =
+        one_and_others (λ i. count_of (ks ++ k ∷ []) i ≤ bank_size i l') k
+        (omega (arith, count_last ks k k, ap {B = ℕ} (λ b. cond b 1 0) (same_self k), room.number, room.place, sizes k))
+        (λ i q. omega (arith, count_last ks k i, ap {B = ℕ} (λ b. cond b 1 0) q, e.records i, sizes i))
+
+    joined : Joined f ks l ks₁ l'
+    joined =
+        subst (λ q. Joined f ks l q l') (sym added.kinds) (record {
           kinds = refl;
-          decoders_are =
-              joined-decoders ks Mobile l₀ l_mobile (mobile (mobile_fitted a))
-              (ap₂ (λ x w. mobile (own x w)) (ap (λ b. get_or b (count_below (is_kind (ks ++ Mobile ∷ []) Mobile) (length ks)) (record { state = mobile_start })) added.records ∙ set_last ks Mobile ms (mobile_fitted a).rec j room.number room.place (record { state = mobile_start })) wrote.here)
-              (λ s low. same_at ks Mobile l₀ l_mobile s low (same_mobile s low) (wrote.there s (omega arith)));
-          enough = λ e. let r = enough ks l₀ e in is_lent_lem (ks ++ Mobile ∷ []) l_mobile (omega (arith, count_last ks Mobile Mobile, room.number, room.place, ap length added.records, length-set ms j (mobile_fitted a).rec)) (omega (arith, count_last ks Mobile Basic, r.basics)) (omega (arith, count_last ks Mobile Extended, r.extendeds)) (omega (arith, length_push ks Mobile, room.window, wrote.size));
+          decoders_are = joined-decoders ks k l l' (fitted f) last (λ s low. same_at ks k l l' s low (before s low) (added.variables.there s (omega arith)));
+          enough = λ e. let r = enough ks l e in lent_from (ks ++ k ∷ []) l' (record { records = enough_places r; cells = omega (arith, length_push ks k, room.window, added.variables.size) });
           rest = record {
-            mobile_size = ap length added.records ∙ length-set ms j (mobile_fitted a).rec;
-            basic_size = refl;
-            extended_size = refl;
-            size = wrote.size;
-            mobiles = λ x i past. ap (λ b. get_or b i x) added.records ∙ set_beyond ks Mobile ms (mobile_fitted a).rec j room.number room.place x i past;
-            basics = λ x i past. refl;
-            extendeds = λ x i past. refl;
-            cells = λ i past. cells_beyond (length ks) wrote i (omega (arith, length_push ks Mobile));
-            outside = out;
+            sizes = sizes;
+            size = added.variables.size;
+            records =
+                one_and_others (λ i. (x : RecordOf i) (m : ℕ) → count_of (ks ++ k ∷ []) i ≤ m → get_or (bank_of i l') m x ≡ get_or (bank_of i l) m x) k
+                (λ x m past. ap (λ b. get_or b m x) added.records ∙ set_beyond ks k (bank_of k l) new.rec j room.number room.place x m past)
+                (λ i q x m past. ap (λ b. get_or b m x) (others i q));
+            cells = λ c past. wrote_beyond (length ks + 1) (length ks) (omega arith) added.variables c (omega (arith, length_push ks k));
+            outside = outside;
           };
         })
 
-  module _ (a : ℕ) (ks₁ : List Kind) (bs' : List basic-record.Basic) (room : Room (length bs) (length c) ks Basic j) (added : AddedAs Basic (basic_fitted a) ks bs c ks₁ bs' c' j) where
-    abbrev l_basic : Lent
-    l_basic = lent ms bs' es c' o'
+  joins : (r : Result ℕ Fault) → r ≡ fitting l ks f → Added k new ks (bank_of k l) l.cells ks₁ (bank_of k l') l'.cells r → Joins f ks l ks₁ l' r
+  joins (Ok j) e added = joined j (has_room (bank_size k l) (length l.cells) ks f j (sym e)) added
+  joins (Err x) e same = (same.0, same_lent l l' (one_and_others (λ i. bank_of i l' ≡ bank_of i l) k same.1 others) same.2 outside)
 
-    same_basic : (s : ℕ) → s < length ks → (i : Kind) → is_kind ks i s ≡ true → Same ks Basic l₀ l_basic i s
-    same_basic s low Mobile h = λ x. refl
-    same_basic s low Basic h = λ x. ap (λ b. get_or b (count_below (is_kind ks Basic) s) x) added.records ∙ set_before ks Basic bs (basic_fitted a).rec j room.number room.place s low h x
-    same_basic s low Extended h = λ x. refl
+-- into the bank of its kind, however the fitting is named
+module _ (f : Fit) (ks ks₁ : List Kind) (l : Lent) (xs : List (RecordOf (fit_kind f))) (cells : List ℕ) (outside : List Outside) where
+  abbrev l₁ : Lent
+  l₁ = with_bank (fit_kind f) xs cells outside l
 
-    pub join_basic : Joined (fits.Basic a) ks l₀ ks₁ l_basic
-    join_basic =
-        let wrote = added.variables in
-        subst (λ q. Joined (fits.Basic a) ks l₀ q l_basic) (sym added.kinds) (record {
-          kinds = refl;
-          decoders_are =
-              joined-decoders ks Basic l₀ l_basic (basic (basic_fitted a))
-              (ap₂ (λ x w. basic (own x w)) (ap (λ b. get_or b (count_below (is_kind (ks ++ Basic ∷ []) Basic) (length ks)) (record { address = 0; state = basic_start })) added.records ∙ set_last ks Basic bs (basic_fitted a).rec j room.number room.place (record { address = 0; state = basic_start })) wrote.here)
-              (λ s low. same_at ks Basic l₀ l_basic s low (same_basic s low) (wrote.there s (omega arith)));
-          enough = λ e. let r = enough ks l₀ e in is_lent_lem (ks ++ Basic ∷ []) l_basic (omega (arith, count_last ks Basic Mobile, r.mobiles)) (omega (arith, count_last ks Basic Basic, room.number, room.place, ap length added.records, length-set bs j (basic_fitted a).rec)) (omega (arith, count_last ks Basic Extended, r.extendeds)) (omega (arith, length_push ks Basic, room.window, wrote.size));
-          rest = record {
-            mobile_size = refl;
-            basic_size = ap length added.records ∙ length-set bs j (basic_fitted a).rec;
-            extended_size = refl;
-            size = wrote.size;
-            mobiles = λ x i past. refl;
-            basics = λ x i past. ap (λ b. get_or b i x) added.records ∙ set_beyond ks Basic bs (basic_fitted a).rec j room.number room.place x i past;
-            extendeds = λ x i past. refl;
-            cells = λ i past. cells_beyond (length ks) wrote i (omega (arith, length_push ks Basic));
-            outside = out;
-          };
-        })
-
-  module _ (a : ℕ) (ks₁ : List Kind) (es' : List extended-record.Extended) (room : Room (length es) (length c) ks Extended j) (added : AddedAs Extended (extended_fitted a) ks es c ks₁ es' c' j) where
-    abbrev l_extended : Lent
-    l_extended = lent ms bs es' c' o'
-
-    same_extended : (s : ℕ) → s < length ks → (i : Kind) → is_kind ks i s ≡ true → Same ks Extended l₀ l_extended i s
-    same_extended s low Mobile h = λ x. refl
-    same_extended s low Basic h = λ x. refl
-    same_extended s low Extended h = λ x. ap (λ b. get_or b (count_below (is_kind ks Extended) s) x) added.records ∙ set_before ks Extended es (extended_fitted a).rec j room.number room.place s low h x
-
-    pub join_extended : Joined (fits.Extended a) ks l₀ ks₁ l_extended
-    join_extended =
-        let wrote = added.variables in
-        subst (λ q. Joined (fits.Extended a) ks l₀ q l_extended) (sym added.kinds) (record {
-          kinds = refl;
-          decoders_are =
-              joined-decoders ks Extended l₀ l_extended (extended (extended_fitted a))
-              (ap₂ (λ x w. extended (own x w)) (ap (λ b. get_or b (count_below (is_kind (ks ++ Extended ∷ []) Extended) (length ks)) (record { address = 0; state = extended_start })) added.records ∙ set_last ks Extended es (extended_fitted a).rec j room.number room.place (record { address = 0; state = extended_start })) wrote.here)
-              (λ s low. same_at ks Extended l₀ l_extended s low (same_extended s low) (wrote.there s (omega arith)));
-          enough = λ e. let r = enough ks l₀ e in is_lent_lem (ks ++ Extended ∷ []) l_extended (omega (arith, count_last ks Extended Mobile, r.mobiles)) (omega (arith, count_last ks Extended Basic, r.basics)) (omega (arith, count_last ks Extended Extended, room.number, room.place, ap length added.records, length-set es j (extended_fitted a).rec)) (omega (arith, length_push ks Extended, room.window, wrote.size));
-          rest = record {
-            mobile_size = refl;
-            basic_size = refl;
-            extended_size = ap length added.records ∙ length-set es j (extended_fitted a).rec;
-            size = wrote.size;
-            mobiles = λ x i past. refl;
-            basics = λ x i past. refl;
-            extendeds = λ x i past. ap (λ b. get_or b i x) added.records ∙ set_beyond ks Extended es (extended_fitted a).rec j room.number room.place x i past;
-            cells = λ i past. cells_beyond (length ks) wrote i (omega (arith, length_push ks Extended));
-            outside = out;
-          };
-        })
+  pub joins_in : {q : Fit} (r : Result ℕ Fault) → q ≡ f → l₁.outside ≡ l.outside → r ≡ fitting l ks f → Added (fit_kind f) (fitted_own f) ks (bank_of (fit_kind f) l) l.cells ks₁ (bank_of (fit_kind f) l₁) l₁.cells r → (r ≡ fitting l ks q) × Joins q ks l ks₁ l₁ r
+  joins_in r e same a added = subst (λ q. (r ≡ fitting l ks q) × Joins q ks l ks₁ l₁ r) (sym e) (a, joins f ks ks₁ l l₁ (others_stay (fit_kind f) xs cells outside l) same r a added)
 
 -- a board without decoders
 pub no_kinds : (l : Lent) → (decoders [] l ≡ []) × (is_lent [] l ≡ true)
 unfolding decoders count_below
-no_kinds l = (refl, is_lent_lem [] l (omega arith) (omega arith) (omega arith) (omega arith))
+no_kinds l = (refl, lent_from [] l (record { records = λ k. omega arith; cells = omega arith }))

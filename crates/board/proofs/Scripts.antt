@@ -3,68 +3,35 @@ use Rattle.std.proofs.Common.{◌≡◌, ℕ, ◌+◌, ◌<◌, true, List, [], 
 use Rattle.std.proofs.lemmas.List.{take_more, take_more_set, drop-drop, drop-set-lt, take_all, map_push, length_push}
 use Rattle.std.proofs.lemmas.Bool.{cond-true}
 use Rattle.fault.specs.declared.fault.Fault.{Fault}
-use Rattle.memory.specs.Cells.{Outside}
-use Rattle.decoder.specs.declared.records.Mobile as mobile-record
-use Rattle.decoder.specs.declared.records.Basic as basic-record
-use Rattle.decoder.specs.declared.records.Extended as extended-record
-use Rattle.decoder.specs.declared.role.Address.{Address}
-use Rattle.decoder.specs.Fitted.{mobile_fitted, basic_fitted, extended_fitted}
 use Rattle.bank.specs.declared.kind.Kind.{Kind}
-use Rattle.bank.specs.declared.kind.Kind.TheVariants.{Mobile, Basic, Extended}
 use Rattle.script.specs.declared.fit.Fit.{Fit}
-use Rattle.script.specs.declared.fit.Fit.TheVariants as fits
 use Rattle.script.specs.declared.call.Call.{Call}
 use Rattle.script.specs.declared.answer.Answer.{Answer}
-use Rattle.script.specs.Boards.{Lent, lent, bank_size, is_lent, decoders, Rest}
+use Rattle.script.specs.Boards.{Lent, is_lent, decoders, Rest}
 use Rattle.script.specs.Fittings.{fit_kind, fitted, fitting_in, fitting, accepted, joining, fit_answers}
 use Rattle.script.specs.Calls.{after_call, after_all, answer_to, answers_to, answer_by, after_by}
 use Rattle.script.specs.Promises.{Ran}
 use Rattle.script.proofs.Runs.{accepted_more, fit_answers_more, after_more, answers_more}
 use Rattle.roster.proofs.Decks.{rest_none, rest_then}
 use Rattle.roster.proofs.Sendings.{still_lent}
-use Rattle.board.specs.Slots.{Added}
 use Rattle.board.specs.Joins.{Joins}
 use Rattle.board.specs.Steps.{FittedTo, PerformedTo}
-use Rattle.board.proofs.Joinings.{has_room, count_grows, no_kinds, join_mobile, join_basic, join_extended}
-
--- ---- one fitting
-
-module _ (ks ks₁ : List Kind) (ms : List mobile-record.Mobile) (bs : List basic-record.Basic) (es : List extended-record.Extended) (c c' : List ℕ) (o o' : List Outside) (out : o' ≡ o) where
-  pub joins_mobile : (a : Address) (ms' : List mobile-record.Mobile) (r : Result ℕ Fault) → r ≡ fitting_in (length ms) (length c) ks (fits.Mobile a) → Added Mobile (mobile_fitted a) ks ms c ks₁ ms' c' r → Joins (fits.Mobile a) ks (lent ms bs es c o) ks₁ (lent ms' bs es c' o') r
-  joins_mobile a ms' (Ok j) e added = join_mobile ks ms bs es c c' o o' out j a ks₁ ms' (has_room (length ms) (length c) ks (fits.Mobile a) j (sym e)) added
-  joins_mobile a ms' (Err f) e same = (same.0, ap (λ m. lent m bs es c' o') same.1 ∙ ap (λ c. lent ms bs es c o') same.2 ∙ ap (lent ms bs es c) out)
-
-  pub joins_basic : (a : ℕ) (bs' : List basic-record.Basic) (r : Result ℕ Fault) → r ≡ fitting_in (length bs) (length c) ks (fits.Basic a) → Added Basic (basic_fitted a) ks bs c ks₁ bs' c' r → Joins (fits.Basic a) ks (lent ms bs es c o) ks₁ (lent ms bs' es c' o') r
-  joins_basic a bs' (Ok j) e added = join_basic ks ms bs es c c' o o' out j a ks₁ bs' (has_room (length bs) (length c) ks (fits.Basic a) j (sym e)) added
-  joins_basic a bs' (Err f) e same = (same.0, ap (λ b. lent ms b es c' o') same.1 ∙ ap (λ c. lent ms bs es c o') same.2 ∙ ap (lent ms bs es c) out)
-
-  pub joins_extended : (a : ℕ) (es' : List extended-record.Extended) (r : Result ℕ Fault) → r ≡ fitting_in (length es) (length c) ks (fits.Extended a) → Added Extended (extended_fitted a) ks es c ks₁ es' c' r → Joins (fits.Extended a) ks (lent ms bs es c o) ks₁ (lent ms bs es' c' o') r
-  joins_extended a es' (Ok j) e added = join_extended ks ms bs es c c' o o' out j a ks₁ es' (has_room (length es) (length c) ks (fits.Extended a) j (sym e)) added
-  joins_extended a es' (Err f) e same = (same.0, ap (λ x. lent ms bs x c' o') same.1 ∙ ap (λ c. lent ms bs es c o') same.2 ∙ ap (lent ms bs es c) out)
+use Rattle.board.proofs.Joinings.{count_grows, no_kinds}
 
 -- ---- what stays
 
 -- with more decoders there is less beyond them
 rest_weaken : {ks : List Kind} {l l' : Lent} (k : Kind) → Rest ks l l' → Rest (ks ++ k ∷ []) l l'
 rest_weaken {ks} k r = record {
-  mobile_size = r.mobile_size;
-  basic_size = r.basic_size;
-  extended_size = r.extended_size;
+  sizes = r.sizes;
   size = r.size;
-  mobiles = λ x j past. r.mobiles x j (omega (arith, count_grows ks k Mobile));
-  basics = λ x j past. r.basics x j (omega (arith, count_grows ks k Basic));
-  extendeds = λ x j past. r.extendeds x j (omega (arith, count_grows ks k Extended));
-  cells = λ i past. r.cells i (omega (arith, length_push ks k));
+  records = λ i x j past. r.records i x j (omega (arith, count_grows ks k i));
+  cells = λ c past. r.cells c (omega (arith, length_push ks k));
   outside = r.outside;
 }
 
-size_kept : {ks : List Kind} {l l' : Lent} (k : Kind) → Rest ks l l' → bank_size k l' ≡ bank_size k l
-size_kept Mobile r = r.mobile_size
-size_kept Basic r = r.basic_size
-size_kept Extended r = r.extended_size
-
 fitting_kept : {ks : List Kind} {l l' : Lent} (js : List Kind) (f : Fit) → Rest ks l l' → fitting l' js f ≡ fitting l js f
-fitting_kept js f r = ap₂ (λ n c. fitting_in n c js f) (size_kept (fit_kind f) r) r.size
+fitting_kept js f r = ap₂ (λ n c. fitting_in n c js f) (r.sizes (fit_kind f)) r.size
 
 -- ---- a place for each answer
 

@@ -3,6 +3,8 @@ ghost use Rattle.std.specs.Prelude.{◌≤◌, length};
 use arrayvec::ArrayVec;
 use bank::Kind;
 
+// Two types, and not one over its phase: each has calls of its own, and no more in common than these two lines and `kinds`.
+
 /// A board to which decoders are fitted. It cannot run yet.
 #[derive(Drop)]
 pub struct Fitting {

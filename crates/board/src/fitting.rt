@@ -1,11 +1,10 @@
-ghost use Rattle.std.specs.Prelude.{◌≡◌, true, false, [], length};
+ghost use Rattle.std.specs.Prelude.{◌≡◌, [], length};
 ghost use Rattle.decoder.specs.Fitted.{mobile_fitted, basic_fitted, extended_fitted};
 ghost use Rattle.bank.specs.declared.kind.Kind.TheVariants as kind;
 ghost use Rattle.script.specs.declared.fit.Fit.TheVariants as fits;
 ghost use Rattle.script.specs.Decoders.{variables_of};
 ghost use Rattle.script.specs.Fittings.{fit_kind, fitted, is_address, fitting_in, fitting};
-ghost use Rattle.bank.specs.Banks.{unless_few};
-ghost use Rattle.bank.specs.Windows.{has_window, Wrote};
+ghost use Rattle.bank.specs.Opened.{Fits};
 ghost use Rattle.roster.specs.Held.{held, SameLenders};
 ghost use Rattle.board.specs.Joins.{Joins};
 ghost use Rattle.board.specs.Slots.{fitting_kinds, running_kinds, admitted, Added};
@@ -33,10 +32,7 @@ fn is_address(fit: Fit) -> bool
 
 /// Gives a new decoder its variables.
 fn fit_variables<M: Memory>(memory: &mut M, slot: usize, fit: Fit) -> Result<(), Fault>
-    ensures answer { result ≡ unless_few (has_window slot (M.Memory.cells memory.old)) }
-    ensures cells { has_window slot (M.Memory.cells memory.old) ≡ true → Wrote (M.Memory.cells memory.old) (M.Memory.cells memory.new) slot (variables_of (fitted fit)) }
-    ensures refused { has_window slot (M.Memory.cells memory.old) ≡ false → M.Memory.cells memory.new ≡ M.Memory.cells memory.old }
-    ensures outside { M.Memory.outside memory.new ≡ M.Memory.outside memory.old }
+    ensures { Fits M.Memory memory.old memory.new slot (variables_of (fitted fit)) result }
 {
     match fit {
         Fit::Mobile(address) => fit_mobile_variables(memory, slot, address),
@@ -104,6 +100,7 @@ impl Fitting {
     }
 
     // The three below share `join`; each takes its kind's own address and bank, and promises its kind's own decoder.
+    // `outside` is no part of `Added`, which compares lists of records and of cells.
 
     /// Fits a mobile decoder at a short or a long address, and answers its number.
     pub fn fit_mobile<M: Memory>(

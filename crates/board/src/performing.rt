@@ -51,6 +51,7 @@ impl Running {
                 Ok(Answer::Set)
             }
             Request::State => {
+                // A place to copy to. What stands in it before is never answered.
                 let mut place = DecoderState::Extended(ExtendedState::new());
                 self.state(banks.shared(), memory, decoder, &mut place)?;
                 Ok(Answer::State(place))

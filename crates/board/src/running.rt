@@ -13,9 +13,12 @@ use memory::Memory;
 use roster::{Banks, BanksMut};
 use script::{DecoderName, DecoderState, Taken};
 
-// Each call is that of the banks, for the kinds that the board has.
+// The calls of the banks once more: those take any list of kinds, and these have the board's own, which nobody can
+// lend wrongly.
 impl Running {
     /// The kinds of the fitted decoders, in the order of fitting.
+    // As that of `Fitting`: two types, so that nothing is fitted to a board that runs, and a trait would keep both
+    // bodies.
     pub fn kinds(&self) -> &[Kind]
         ensures { result.now ≡ running_kinds self.now }
     {
@@ -61,6 +64,7 @@ impl Running {
     }
 
     /// Copies all of a decoder's volatile part to the place. A refusal (17, 18) leaves the place as it was.
+    // A rule of the project: the caller lends the record that the state is copied into.
     pub fn state<M: Memory>(
         &self,
         banks: Banks<'_>,

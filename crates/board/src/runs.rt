@@ -16,7 +16,8 @@ use script::{Answer, Call, Fit};
 
 /// A whole run: a new board, the fittings, the start, and the calls, each answered at its place, refused ones too.
 ///
-/// The places for the answers are lent. Refused with 21, and nothing is done, where there are fewer
+/// The places for the answers are lent, as there is no heap. Refused with 21, and nothing is done, where there are
+/// fewer
 /// places than fittings or calls.
 pub fn run<M: Memory>(
     fits: &[Fit],
@@ -54,7 +55,8 @@ fn fit_all<M: Memory>(
     ensures fitted { FittedAll fits.now (held M.Memory banks.old memory.old) (fitting_kinds board.new) (held M.Memory banks.new memory.new) numbers.old numbers.new }
     ensures lenders { SameLenders banks.old banks.new }
 {
-    // Tried: a zip with `numbers.iter_mut()`, of which a proof knows afterwards how many numbers there are, and none of them.
+    // Tried: a zip with `numbers.iter_mut()`, of which a proof knows afterwards how many numbers there are, and none
+    // of them.
     for (i, fit) in fits.iter().enumerate() {
         numbers[i] = board.fit(banks, memory, *fit);
     }
@@ -72,7 +74,9 @@ fn perform_all<M: Memory>(
     ensures performed { PerformedAll calls.now (running_kinds board.now) (held M.Memory banks.old memory.old) (held M.Memory banks.new memory.new) answers.old answers.new }
     ensures lenders { SameLenders banks.old banks.new }
 {
-    // By its index, as the fittings are and for the same reason.
+    // By its index, as the fittings are and for the same reason. One loop over a closure for both would have to say
+    // what the closure
+    // makes of the banks and the memory, which is all that these two say.
     for (i, call) in calls.iter().enumerate() {
         answers[i] = board.perform(banks, memory, call);
     }

@@ -1,5 +1,5 @@
 -- The rules of the three kinds are lawful. Assumes nothing.
-use Rattle.std.proofs.Common.{◌≡◌, ℕ, ◌+◌, ◌-◌, ◌%◌, Bool, true, false, cond, not, ◌&&◌, eqb, ltb, ◌≢◌, List, length, set, Some, None, Option, sym, refl, ap, ◌∙◌, ⊎_elim, arith, length-set}
+use Rattle.std.proofs.Common.{◌≡◌, ℕ, ◌+◌, ◌-◌, ◌%◌, Bool, true, false, cond, not, ◌&&◌, ◌||◌, eqb, ltb, ◌≢◌, List, length, set, Some, None, Option, is_some, sym, refl, ap, ◌∙◌, ⊎_elim, arith, length-set}
 use Rattle.std.proofs.lemmas.Bool.{true≢false, cases_eq, cond-true, cond-false, eq-eqb, ne_eqb}
 use Rattle.std.proofs.lemmas.Bool.Decides.{nat_tests}
 use Rattle.packet.specs.declared.instruction.Instruction.{Instruction}
@@ -15,28 +15,20 @@ use Rattle.decoder.specs.declared.effect.Effect.{Effect}
 use Rattle.decoder.specs.declared.effect.Effect.TheVariants as effect
 use Rattle.decoder.specs.declared.role.Role.{Role}
 use Rattle.decoder.specs.declared.role.Role.TheVariants as role
-use Rattle.decoder.specs.Accesses.{access, access_of, agrees, result, barred, writes_by, is_write, writes_in, access_acts}
+use Rattle.decoder.specs.Accesses.{access, access_of, agrees, result, barred, writes_by, is_write, writes_in, access_acts, accessed}
 use Rattle.packet.specs.declared.target.Target.{Target}
-use Rattle.packet.specs.declared.target.Target.TheVariants.{Idle, Broadcast, Short, Long}
-use Rattle.packet.specs.declared.target.Target.TheVariants as target
 use Rattle.decoder.specs.declared.records.Mobile.{Mobile}
-use Rattle.decoder.specs.declared.records.Basic.{Basic}
-use Rattle.decoder.specs.declared.records.Extended.{Extended}
-use Rattle.decoder.specs.Hearing.{by_accessory, basic_role, extended_role}
+use Rattle.decoder.specs.declared.records.Accessory.{Accessory}
 use Rattle.decoder.specs.Mobiles.{access_effect, speed_acts, fully_acts, is_speed, mobile_effect}
-use Rattle.decoder.specs.Accessories.{output_of, aspect_of, acts_or}
-use Rattle.decoder.specs.Alone.{Own, variable, named, mobile_view, applied, mobile_rules, basic_rules, extended_rules}
+use Rattle.decoder.specs.Accessories.{AccessoryKind, basic_kind, extended_kind}
+use Rattle.decoder.specs.Alone.{Own, variable, named, mobile_view, applied, mobile_rules, accessory_rules, basic_rules, extended_rules}
 use Rattle.decoder.specs.Persistence.{Ordinary, names, changes, or_else, mobile_exceptions, accessory_exceptions}
-use Rattle.decoder.proofs.Apart.{Apart, output_apart, aspect_apart}
+use Rattle.decoder.proofs.Sounds.{Apart, Sound, basic_sound, extended_sound}
 use Rattle.decoder.proofs.Persisted.{Lawful, bit, put_same, put_other}
 
 applied-length : (e : Option Effect) (vars : List ℕ) → length (applied e vars) ≡ length vars
 applied-length None vars = refl
 applied-length (Some (effect.Put cv x)) vars = length-set vars (cv.number - 1) x
-applied-length (Some (effect.Consist x)) vars = length-set vars 18 x
-applied-length (Some (effect.Config x)) vars = length-set vars 28 x
-applied-length (Some (effect.Acceleration x)) vars = length-set vars 22 x
-applied-length (Some (effect.Deceleration x)) vars = length-set vars 23 x
 applied-length (Some effect.HardReset) vars = simp length-set
 
 module _ {exceptions : List ℕ} (n b : ℕ) (free : Ordinary exceptions n) where
@@ -72,7 +64,7 @@ module _ {exceptions : List ℕ} (n b : ℕ) (free : Ordinary exceptions n) wher
       (offset : ℕ) (vars : List ℕ) (w : Option WaitingWrite) (p : WaitingWrite) (a : Access)
       → n ≢ offset + 7 → n ≢ offset + 8
       → length vars ≡ 1024
-      → bit n b (applied (cond (access_acts offset w p (variable vars a.cv.number) (Some a)) (access_effect (variable vars a.cv.number) (Some a)) None) vars)
+      → bit n b (applied (cond (access_acts offset w p (accessed (Some a) (named vars (Some a)))) (access_effect (accessed (Some a) (named vars (Some a)))) None) vars)
       ≡ or_else (cond (a.writes && matches w p) (names n b (Some a)) None) (bit n b vars)
   access_names offset vars w p a no7 no8 l =
       go a.writes (matches w p) (barred offset a.cv.number) (agrees a.change (variable vars a.cv.number)) (barred-names offset a no7 no8)
@@ -143,57 +135,40 @@ mobile_lawful = record {
   writes = λ o t r bs i n b h l free. mobile_writes o bs n b l free r i;
 }
 
--- an accessory decoder, by the instruction of its own and the long form that an instruction is
+-- an accessory decoder, by what it shows after an instruction, and by the long form that this is
 module _ (vars : List ℕ) (n b : ℕ) (l : length vars ≡ 1024) (free : Ordinary accessory_exceptions n) where
   accessory_any :
       {Y : Type 0} (own : Option Y) (a : Option Access) (w : Option WaitingWrite) (p : WaitingWrite)
       → Apart own a
-      → bit n b (applied (cond (acts_or own (access_acts 512 w p (named vars a) a)) (access_effect (named vars a) a) None) vars)
+      → bit n b (applied (cond (is_some own || access_acts 512 w p (accessed a (named vars a))) (access_effect (accessed a (named vars a))) None) vars)
       ≡ or_else (cond (writes_by a && matches w p) (names n b a) None) (bit n b vars)
-  accessory_any own None w p h = ap (bit n b) (same_cond (acts_or own false) vars)
+  accessory_any own None w p h = ap (bit n b) (same_cond (is_some own || false) vars)
   accessory_any None (Some a) w p h = access_names n b free 512 vars w p a free.not_excepted.0 free.not_excepted.1.0 l
   accessory_any (Some y) (Some a) w p h = absurd (true≢false h)
 
--- and it hears no packet by a consist address
-no_consist : (own all a : ℕ) → by_accessory own all a ≡ Some role.Consist → ⊥
-no_consist own all a e = grind (arith, nat_tests)
-
-module _ (o : Own Basic) (bs : List ℕ) (n b : ℕ) (l : length o.vars ≡ 1024) (free : Ordinary accessory_exceptions n) where
-  basic_writes :
-      (t : Target) (r : Role) (i : Instruction)
-      → basic_role o.rec.address t ≡ Some r
-      → bit n b (basic_rules.obeys o r bs i).vars
+module _ {S : Type 0} (k : AccessoryKind S) (sound : Sound k) where
+  accessory_writes :
+      (o : Own (Accessory S)) (t : Target) (r : Role) (bs : List ℕ) (i : Instruction) (n b : ℕ)
+      → k.role o.rec.address t ≡ Some r
+      → length o.vars ≡ 1024
+      → Ordinary accessory_exceptions n
+      → bit n b ((accessory_rules k).obeys o r bs i).vars
       ≡ or_else (cond (writes_in r i && matches o.rec.state.waiting (packed bs)) (names n b (access_of i)) None) (bit n b o.vars)
-  basic_writes t role.Everyone i h = accessory_any o.vars n b l free (output_of i) (access_of i) o.rec.state.waiting (packed bs) (output_apart i)
-  basic_writes t role.Own i h = accessory_any o.vars n b l free (output_of i) (access_of i) o.rec.state.waiting (packed bs) (output_apart i)
-  basic_writes (target.Basic a) role.Consist i h = absurd (no_consist o.rec.address 511 a h)
-  basic_writes t role.Consist i h = let z : ◌≡◌ {A = ℕ} 0 1 = cc in absurd (omega arith)
+  accessory_writes o t role.Everyone bs i n b h l free = accessory_any o.vars n b l free (k.after o.rec.state.shown i) (access_of i) o.rec.state.waiting (packed bs) (sound.apart _ i)
+  accessory_writes o t role.Own bs i n b h l free = accessory_any o.vars n b l free (k.after o.rec.state.shown i) (access_of i) o.rec.state.waiting (packed bs) (sound.apart _ i)
+  accessory_writes o t role.Consist bs i n b h l free = absurd (sound.alone o.rec.address t h)
+
+  accessory_lawful : Lawful (accessory_rules k) accessory_exceptions
+  accessory_lawful = record {
+    size = λ o r bs i. applied-length _ o.vars;
+    waits = λ o r bs i. refl;
+    starts = λ x. sound.fresh;
+    unwaits = λ x. refl;
+    writes = accessory_writes;
+  }
 
 pub basic_lawful : Lawful basic_rules accessory_exceptions
-basic_lawful = record {
-  size = λ o r bs i. applied-length _ o.vars;
-  waits = λ o r bs i. refl;
-  starts = λ x. refl;
-  unwaits = λ x. refl;
-  writes = λ o t r bs i n b h l free. basic_writes o bs n b l free t r i h;
-}
-
-module _ (o : Own Extended) (bs : List ℕ) (n b : ℕ) (l : length o.vars ≡ 1024) (free : Ordinary accessory_exceptions n) where
-  extended_writes :
-      (t : Target) (r : Role) (i : Instruction)
-      → extended_role o.rec.address t ≡ Some r
-      → bit n b (extended_rules.obeys o r bs i).vars
-      ≡ or_else (cond (writes_in r i && matches o.rec.state.waiting (packed bs)) (names n b (access_of i)) None) (bit n b o.vars)
-  extended_writes t role.Everyone i h = accessory_any o.vars n b l free (aspect_of i) (access_of i) o.rec.state.waiting (packed bs) (aspect_apart i)
-  extended_writes t role.Own i h = accessory_any o.vars n b l free (aspect_of i) (access_of i) o.rec.state.waiting (packed bs) (aspect_apart i)
-  extended_writes (target.Extended a) role.Consist i h = absurd (no_consist o.rec.address 2047 a h)
-  extended_writes t role.Consist i h = let z : ◌≡◌ {A = ℕ} 0 1 = cc in absurd (omega arith)
+basic_lawful = accessory_lawful basic_kind basic_sound
 
 pub extended_lawful : Lawful extended_rules accessory_exceptions
-extended_lawful = record {
-  size = λ o r bs i. applied-length _ o.vars;
-  waits = λ o r bs i. refl;
-  starts = λ x. refl;
-  unwaits = λ x. refl;
-  writes = λ o t r bs i n b h l free. extended_writes o bs n b l free t r i h;
-}
+extended_lawful = accessory_lawful extended_kind extended_sound

@@ -1,5 +1,5 @@
 pub mod Same
-pub mod Apart
+pub mod Sounds
 pub mod Persisted
 pub mod Lawfuls
 pub mod Tracks

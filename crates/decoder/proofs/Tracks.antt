@@ -1,12 +1,13 @@
 -- The laws of the rules. Assumes nothing.
-use Rattle.std.proofs.Common.{◌≡◌, ℕ, ◌+◌, ◌-◌, ◌<◌, ◌≤◌, Bool, true, false, cond, not, ◌&&◌, ltb, leb, ◌⊎◌, List, ◌++◌, length, get_or, take, drop, Some, None, Option, refl, ap, ◌∙◌, inl, inr, ⊎_elim, arith}
+use Rattle.std.proofs.Common.{◌≡◌, ℕ, ◌+◌, ◌-◌, ◌<◌, ◌≤◌, Bool, true, false, cond, not, ◌&&◌, ◌||◌, ltb, leb, ◌⊎◌, List, ◌++◌, length, get_or, take, drop, Some, None, Option, is_some, refl, ap, ◌∙◌, inl, inr, ⊎_elim, arith}
 use Rattle.std.proofs.lemmas.List.{get_or_append_left, get_or-append_right, get_or-take, get_or-drop, get_or-set_same, get_or-set_other, length-take-le, length-append}
 use Rattle.std.proofs.lemmas.Bool.{true≢false, false≢true, cases_lt}
 use Rattle.std.proofs.lemmas.Bool.Decides.{nat_tests}
-use Rattle.packet.specs.declared.instruction.FunctionGroup.TheVariants.{F0ToF4, F5ToF8, F9ToF12, F13ToF20, F21ToF28, F29ToF36, F37ToF44, F45ToF52, F53ToF60, F61ToF68}
+use Rattle.packet.specs.declared.instruction.FunctionGroup.TheVariants.{F0ToF4}
 use Rattle.packet.specs.declared.instruction.Instruction.{Instruction}
 use Rattle.packet.specs.declared.instruction.Instruction.TheVariants.{Reset, HardReset, Speed, Speed126, Functions, WriteByte, WriteBit}
 use Rattle.packet.specs.declared.target.Target.{Target}
+use Rattle.packet.specs.Groups.{lowest_of, width_of}
 use Rattle.format.specs.Reading.{packet_read}
 use Rattle.state.specs.declared.waiting.WaitingWrite.{WaitingWrite}
 use Rattle.state.specs.Bits.{bit_of}
@@ -16,20 +17,18 @@ use Rattle.state.specs.Packing.{packed, matches}
 use Rattle.decoder.specs.declared.effect.Access.{Access}
 use Rattle.decoder.specs.declared.effect.Effect.TheVariants as effect
 use Rattle.decoder.specs.declared.records.Mobile.{Mobile}
-use Rattle.decoder.specs.declared.records.Basic.{Basic}
-use Rattle.decoder.specs.declared.records.Extended.{Extended}
 use Rattle.decoder.specs.declared.role.Role.{Role}
 use Rattle.decoder.specs.declared.role.Role.TheVariants as role
-use Rattle.decoder.specs.Accesses.{access_of, agrees, result, barred, writes_by, is_write, access_acts}
-use Rattle.decoder.specs.Accessories.{output_of, aspect_of, acts_or}
+use Rattle.decoder.specs.Accesses.{access_of, agrees, result, barred, writes_by, is_write, access_acts, accessed}
+use Rattle.decoder.specs.Accessories.{AccessoryKind, basic_kind, extended_kind}
 use Rattle.decoder.specs.Replies.{answer_of}
 use Rattle.decoder.specs.Mobiles.{access_effect, sped, with_functions}
 use Rattle.state.specs.declared.volatile.MobileState.{MobileState}
 use Rattle.state.specs.declared.scale.Scale.TheVariants.{Fourteen, TwentyEight}
-use Rattle.decoder.specs.Alone.{Own, Rules, variable, named, applied, hearing, obeyed, live, mobile_rules, basic_rules, extended_rules}
+use Rattle.decoder.specs.Alone.{Own, Rules, variable, named, applied, hearing, obeyed, live, mobile_rules, accessory_rules}
 use Rattle.decoder.specs.Alone.Event.{heard}
-use Rattle.decoder.proofs.Apart.{Apart, output_apart, aspect_apart}
-use Rattle.decoder.specs.Laws.{ReplyNeedsAll, ResetIsPowerUp, ByConsistOnlySpeed, GroupsSwitchTheirOwn, is_in_group, LightByGroupOne, OthersKeepFunctions, Laws}
+use Rattle.decoder.proofs.Sounds.{Apart, Sound, basic_sound, extended_sound}
+use Rattle.decoder.specs.Laws.{KindLaws, ReplyNeedsAll, ResetIsPowerUp, ByConsistOnlySpeed, GroupsSwitchTheirOwn, is_in_group, LightByGroupOne, OthersKeepFunctions, Laws}
 
 module _ {X : Type 0} (m : Rules X) where
   unheard : (o : Own X) (bs : List ℕ) → hearing m o (packet_read bs) ≡ None → live m o (heard bs) ≡ o
@@ -40,13 +39,16 @@ module _ {X : Type 0} (m : Rules X) where
 
 -- a write that does not repeat leaves the variables
 first_keeps :
-    (offset : ℕ) (w : Option WaitingWrite) (p : WaitingWrite) (v : ℕ) (a : Option Access) (vars : List ℕ)
+    (offset : ℕ) (w : Option WaitingWrite) (p : WaitingWrite) (a : Option Access) (vars : List ℕ)
     → writes_by a ≡ true
     → matches w p ≡ false
-    → applied (cond (access_acts offset w p v a) (access_effect v a) None) vars ≡ vars
-first_keeps offset w p v None vars e f = absurd (false≢true e)
-first_keeps offset w p v (Some a) vars e f = go a.writes (matches w p) e f
+    → applied (cond (access_acts offset w p (accessed a (named vars a))) (access_effect (accessed a (named vars a))) None) vars ≡ vars
+first_keeps offset w p None vars e f = absurd (false≢true e)
+first_keeps offset w p (Some a) vars e f = go a.writes (matches w p) e f
   where
+    v : ℕ
+    v = variable vars a.cv.number
+
     go : (writes same : Bool) → writes ≡ true → same ≡ false → applied (cond (cond writes (same && not (barred offset a.cv.number)) (agrees a.change v)) (cond writes (Some (effect.Put a.cv (result a.change v))) None) None) vars ≡ vars
     go true false e f = refl
     go true true e f = absurd (true≢false f)
@@ -55,8 +57,8 @@ first_keeps offset w p v (Some a) vars e f = go a.writes (matches w p) e f
 mobile_first : (o : Own Mobile) (r : Role) (bs : List ℕ) (i : Instruction) → is_write i ≡ true → matches o.rec.state.waiting (packed bs) ≡ false → (mobile_rules.obeys o r bs i).vars ≡ o.vars
 mobile_first o role.Consist bs (WriteByte cv value) e f = refl
 mobile_first o role.Consist bs (WriteBit cv bit value) e f = refl
-mobile_first o r bs (WriteByte cv value) e f = first_keeps 0 o.rec.state.waiting (packed bs) (variable o.vars cv.number) (access_of (WriteByte cv value)) o.vars e f
-mobile_first o r bs (WriteBit cv bit value) e f = first_keeps 0 o.rec.state.waiting (packed bs) (variable o.vars cv.number) (access_of (WriteBit cv bit value)) o.vars e f
+mobile_first o r bs (WriteByte cv value) e f = first_keeps 0 o.rec.state.waiting (packed bs) (access_of (WriteByte cv value)) o.vars e f
+mobile_first o r bs (WriteBit cv bit value) e f = first_keeps 0 o.rec.state.waiting (packed bs) (access_of (WriteBit cv bit value)) o.vars e f
 mobile_first o r bs i e f = absurd (false≢true e)
 
 accessory_first :
@@ -64,23 +66,24 @@ accessory_first :
     → Apart own a
     → writes_by a ≡ true
     → matches w p ≡ false
-    → applied (cond (acts_or own (access_acts 512 w p (named vars a) a)) (access_effect (named vars a) a) None) vars ≡ vars
-accessory_first None a w p vars h e f = first_keeps 512 w p (named vars a) a vars e f
+    → applied (cond (is_some own || access_acts 512 w p (accessed a (named vars a))) (access_effect (accessed a (named vars a))) None) vars ≡ vars
+accessory_first None a w p vars h e f = first_keeps 512 w p a vars e f
 accessory_first (Some y) None w p vars h e f = absurd (false≢true e)
 accessory_first (Some y) (Some a) w p vars h e f = absurd (true≢false h)
 
-basic_first : (o : Own Basic) (r : Role) (bs : List ℕ) (i : Instruction) → is_write i ≡ true → matches o.rec.state.waiting (packed bs) ≡ false → (basic_rules.obeys o r bs i).vars ≡ o.vars
-basic_first o r bs i e f = accessory_first (output_of i) (access_of i) o.rec.state.waiting (packed bs) o.vars (output_apart i) e f
-
-extended_first : (o : Own Extended) (r : Role) (bs : List ℕ) (i : Instruction) → is_write i ≡ true → matches o.rec.state.waiting (packed bs) ≡ false → (extended_rules.obeys o r bs i).vars ≡ o.vars
-extended_first o r bs i e f = accessory_first (aspect_of i) (access_of i) o.rec.state.waiting (packed bs) o.vars (aspect_apart i) e f
+accessory_laws : {S : Type 0} (k : AccessoryKind S) → Sound k → KindLaws (accessory_rules k)
+accessory_laws k sound = record {
+  unheard_keeps = unheard (accessory_rules k);
+  one_role = one (accessory_rules k);
+  first_waits = λ o r bs i e f. accessory_first (k.after o.rec.state.shown i) (access_of i) o.rec.state.waiting (packed bs) o.vars (sound.apart _ i) e f;
+}
 
 replies_need_all : ReplyNeedsAll
-replies_need_all config v role.Everyone acted i = inl refl
-replies_need_all config v role.Consist acted i = inl refl
-replies_need_all config v role.Own acted i = go (bit_of config 3) acted refl refl
+replies_need_all config a role.Everyone acted = inl refl
+replies_need_all config a role.Consist acted = inl refl
+replies_need_all config a role.Own acted = go (bit_of config 3) acted refl refl
   where
-    go : (c d : Bool) → bit_of config 3 ≡ c → acted ≡ d → (cond (c && d) (Some (answer_of v i)) None ≡ None) ⊎ ((role.Own ≡ role.Own) × (c ≡ true) × (d ≡ true))
+    go : (c d : Bool) → bit_of config 3 ≡ c → acted ≡ d → (cond (c && d) (Some (answer_of a)) None ≡ None) ⊎ ((role.Own ≡ role.Own) × (c ≡ true) × (d ≡ true))
     go true true e f = inr (refl, refl, refl)
     go true false e f = inl refl
     go false d e f = inl refl
@@ -175,15 +178,7 @@ groups_switch fs F0ToF4 bits k light l h = go light
     go : (c : Bool) → get_or (switched fs F0ToF4 bits c) k false ≡ cond (is_in_group F0ToF4 k) (bit_of bits (k - 1)) (get_or fs k false)
     go true = get_or-set_other (pasted fs 1 (low_bits 4 bits)) 0 k (bit_of bits 4) false (omega arith) ∙ part
     go false = part
-groups_switch fs F5ToF8 bits k light l h = part_at fs 5 4 bits k (omega arith)
-groups_switch fs F9ToF12 bits k light l h = part_at fs 9 4 bits k (omega arith)
-groups_switch fs F13ToF20 bits k light l h = part_at fs 13 8 bits k (omega arith)
-groups_switch fs F21ToF28 bits k light l h = part_at fs 21 8 bits k (omega arith)
-groups_switch fs F29ToF36 bits k light l h = part_at fs 29 8 bits k (omega arith)
-groups_switch fs F37ToF44 bits k light l h = part_at fs 37 8 bits k (omega arith)
-groups_switch fs F45ToF52 bits k light l h = part_at fs 45 8 bits k (omega arith)
-groups_switch fs F53ToF60 bits k light l h = part_at fs 53 8 bits k (omega arith)
-groups_switch fs F61ToF68 bits k light l h = part_at fs 61 8 bits k (omega arith)
+groups_switch fs g bits k light l h = part_at fs (lowest_of g) (width_of g) bits k (omega arith)
 
 light_by_one : LightByGroupOne
 light_by_one fs F0ToF4 bits light l = go light
@@ -197,15 +192,7 @@ light_by_one fs F0ToF4 bits light l = go light
     go : (c : Bool) → get_or (switched fs F0ToF4 bits c) 0 false ≡ cond (true && c) (bit_of bits 4) (get_or fs 0 false)
     go true = get_or-set_same (pasted fs 1 (low_bits 4 bits)) 0 (bit_of bits 4) false size
     go false = part
-light_by_one fs F5ToF8 bits light l = part_at fs 5 4 bits 0 (omega arith)
-light_by_one fs F9ToF12 bits light l = part_at fs 9 4 bits 0 (omega arith)
-light_by_one fs F13ToF20 bits light l = part_at fs 13 8 bits 0 (omega arith)
-light_by_one fs F21ToF28 bits light l = part_at fs 21 8 bits 0 (omega arith)
-light_by_one fs F29ToF36 bits light l = part_at fs 29 8 bits 0 (omega arith)
-light_by_one fs F37ToF44 bits light l = part_at fs 37 8 bits 0 (omega arith)
-light_by_one fs F45ToF52 bits light l = part_at fs 45 8 bits 0 (omega arith)
-light_by_one fs F53ToF60 bits light l = part_at fs 53 8 bits 0 (omega arith)
-light_by_one fs F61ToF68 bits light l = part_at fs 61 8 bits 0 (omega arith)
+light_by_one fs g bits light l = part_at fs (lowest_of g) (width_of g) bits 0 (omega arith)
 
 -- whether or not it acts
 either : (c : Bool) (s u : MobileState) → u.functions ≡ s.functions → (cond c u s).functions ≡ s.functions
@@ -222,8 +209,8 @@ others_keep o r bs i e = either _ o.rec.state _ refl
 pub laws : Laws
 laws = record {
   mobiles = record { unheard_keeps = unheard mobile_rules; one_role = one mobile_rules; first_waits = mobile_first };
-  basics = record { unheard_keeps = unheard basic_rules; one_role = one basic_rules; first_waits = basic_first };
-  extendeds = record { unheard_keeps = unheard extended_rules; one_role = one extended_rules; first_waits = extended_first };
+  basics = accessory_laws basic_kind basic_sound;
+  extendeds = accessory_laws extended_kind extended_sound;
   replies = replies_need_all;
   resets = reset_is_power_up;
   consists = only_speed;

@@ -11,6 +11,7 @@ use Rattle.decoder.specs.declared.effect.Change.TheVariants.{Byte, Bit}
 use Rattle.decoder.specs.declared.effect.Access.{Access}
 use Rattle.decoder.specs.declared.role.Role.{Role}
 use Rattle.decoder.specs.declared.role.Role.TheVariants as role
+use Rattle.decoder.specs.declared.effect.Accessed.{Accessed}
 
 abbrev pub access : CvNumber → Bool → Change → Access
 access cv writes c = record { cv = cv; writes = writes; change = c }
@@ -72,7 +73,13 @@ writes_in role.Consist i = false
 abbrev pub waits_after : Option WaitingWrite → Role → WaitingWrite → Instruction → Option WaitingWrite
 waits_after w r p i = cond (writes_in r i && not (matches w p)) (Some p) None
 
+-- a long form, and the variable that it names as it stands
+abbrev pub accessed : Option Access → Option ℕ → Option Accessed
+accessed None v = None
+accessed (Some a) None = None
+accessed (Some a) (Some v) = Some (record { access = a; value = v })
+
 -- a verify acts if the variable agrees, a write at its repetition, unless the variable is barred
-abbrev pub access_acts : ℕ → Option WaitingWrite → WaitingWrite → ℕ → Option Access → Bool
-access_acts offset w p v None = false
-access_acts offset w p v (Some a) = cond a.writes (matches w p && not (barred offset a.cv.number)) (agrees a.change v)
+abbrev pub access_acts : ℕ → Option WaitingWrite → WaitingWrite → Option Accessed → Bool
+access_acts offset w p None = false
+access_acts offset w p (Some a) = cond a.access.writes (matches w p && not (barred offset a.access.cv.number)) (agrees a.access.change a.value)

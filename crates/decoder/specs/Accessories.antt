@@ -1,14 +1,17 @@
--- What an accessory decoder does at an instruction that it hears.
-use Rattle.std.specs.Prelude.{ℕ, ◌%◌, Bool, true, cond, ◌||◌, List, Some, None, Option, slice_set}
+-- What makes the two kinds of accessory decoders, and what one does at an instruction that it hears.
+use Rattle.std.specs.Prelude.{ℕ, ◌%◌, Bool, cond, ◌||◌, List, Some, None, Option, is_some, slice_set}
+use Rattle.std.specs.Option.{option_map, unwrap_or}
 use Rattle.packet.specs.declared.instruction.Instruction.{Instruction}
 use Rattle.packet.specs.declared.instruction.Instruction.TheVariants.{NoOperation, Reset, HardReset, AdvancedAddressing, AcknowledgmentRequest, Consist, Speed, Speed126, Functions, BinaryStateShort, BinaryStateLong, AccelerationAdjustment, DecelerationAdjustment, VerifyByte, WriteByte, VerifyBit, WriteBit, Output, Aspect}
-use Rattle.state.specs.declared.volatile.BasicState.{BasicState}
-use Rattle.state.specs.declared.volatile.ExtendedState.{ExtendedState}
-use Rattle.state.specs.declared.waiting.WaitingWrite.{WaitingWrite}
+use Rattle.packet.specs.declared.target.Target.{Target}
+use Rattle.state.specs.declared.volatile.AccessoryState.{AccessoryState}
+use Rattle.state.specs.Starting.{basic_start, extended_start}
 use Rattle.decoder.specs.declared.effect.Effect.{Effect}
 use Rattle.decoder.specs.declared.heard.Heard.{Heard}
+use Rattle.decoder.specs.declared.role.Role.{Role}
 use Rattle.decoder.specs.declared.view.AccessoryView.{AccessoryView}
-use Rattle.decoder.specs.Accesses.{access_of, waits_after, access_acts}
+use Rattle.decoder.specs.Accesses.{access_of, accessed, waits_after, access_acts}
+use Rattle.decoder.specs.Hearing.{basic_role, extended_role}
 use Rattle.decoder.specs.Mobiles.{access_effect}
 use Rattle.decoder.specs.Replies.{reply_after}
 
@@ -56,49 +59,35 @@ aspect_of (WriteBit cv bit value) = None
 aspect_of (Output number on) = None
 aspect_of (Aspect number) = Some number
 
--- an instruction of the kind's own acts, and a long form by its rules
-abbrev pub acts_or : {X : Type 0} → Option X → Bool → Bool
-acts_or None other = other
-acts_or (Some x) other = true
+-- what makes a kind of accessory decoders
+pub record AccessoryKind (S : Type 0) : Type 0 where
+  -- as the power comes up
+  pub start : AccessoryState S
+  -- by which address a decoder of that address hears a packet to the target
+  pub role : ℕ → Target → Option Role
+  -- what is shown after an instruction of the kind's own
+  pub after : S → Instruction → Option S
 
--- the same, where it is known whether the instruction is the kind's own
-abbrev pub acts_as : Bool → Option WaitingWrite → AccessoryView → Heard → Bool
-acts_as shows w v h = shows || access_acts 512 w h.packet v.value (access_of h.instruction)
+abbrev pub basic_kind : AccessoryKind (List Bool)
+basic_kind = record { start = basic_start; role = basic_role; after = λ os i. option_map (λ o. slice_set os o.0 o.1) (output_of i) }
 
-abbrev pub basic_acts : BasicState → AccessoryView → Heard → Bool
-basic_acts s v h = acts_or (output_of h.instruction) (access_acts 512 s.waiting h.packet v.value (access_of h.instruction))
+abbrev pub extended_kind : AccessoryKind ℕ
+extended_kind = record { start = extended_start; role = extended_role; after = λ a i. aspect_of i }
 
-abbrev pub extended_acts : ExtendedState → AccessoryView → Heard → Bool
-extended_acts s v h = acts_or (aspect_of h.instruction) (access_acts 512 s.waiting h.packet v.value (access_of h.instruction))
+module _ {S : Type 0} (k : AccessoryKind S) where
+  -- an instruction of the kind's own acts, and a long form by its rules
+  abbrev pub accessory_acts : AccessoryState S → AccessoryView → Heard → Bool
+  accessory_acts s v h = is_some (k.after s.shown h.instruction) || access_acts 512 s.waiting h.packet (accessed (access_of h.instruction) v.value)
 
-abbrev pub outputs_after : List Bool → Option (ℕ × Bool) → List Bool
-outputs_after os None = os
-outputs_after os (Some o) = slice_set os o.0 o.1
+  -- a packet that is heard in a role: the volatile part afterwards
+  abbrev pub accessory_after : AccessoryState S → AccessoryView → Heard → AccessoryState S
+  accessory_after s v h =
+      record {
+        shown = unwrap_or (k.after s.shown h.instruction) s.shown;
+        waiting = waits_after s.waiting h.role h.packet h.instruction;
+        reply = reply_after v.config (accessed (access_of h.instruction) v.value) h.role (accessory_acts s v h);
+      }
 
-abbrev pub aspect_after : ℕ → Option ℕ → ℕ
-aspect_after a None = a
-aspect_after a (Some b) = b
-
--- a packet that is heard in a role: the volatile part afterwards
-abbrev pub basic_after : BasicState → AccessoryView → Heard → BasicState
-basic_after s v h =
-    record {
-      outputs = outputs_after s.outputs (output_of h.instruction);
-      waiting = waits_after s.waiting h.role h.packet h.instruction;
-      reply = reply_after v.config v.value h.role (basic_acts s v h) h.instruction;
-    }
-
-abbrev pub extended_after : ExtendedState → AccessoryView → Heard → ExtendedState
-extended_after s v h =
-    record {
-      aspect = aspect_after s.aspect (aspect_of h.instruction);
-      waiting = waits_after s.waiting h.role h.packet h.instruction;
-      reply = reply_after v.config v.value h.role (extended_acts s v h) h.instruction;
-    }
-
--- and what becomes of the variables
-abbrev pub basic_plan : BasicState → AccessoryView → Heard → Option Effect
-basic_plan s v h = cond (basic_acts s v h) (access_effect v.value (access_of h.instruction)) None
-
-abbrev pub extended_plan : ExtendedState → AccessoryView → Heard → Option Effect
-extended_plan s v h = cond (extended_acts s v h) (access_effect v.value (access_of h.instruction)) None
+  -- and what becomes of the variables
+  abbrev pub accessory_plan : AccessoryState S → AccessoryView → Heard → Option Effect
+  accessory_plan s v h = cond (accessory_acts s v h) (access_effect (accessed (access_of h.instruction) v.value)) None

@@ -11,16 +11,15 @@ use Rattle.decoder.specs.declared.effect.Effect.{Effect}
 use Rattle.decoder.specs.declared.effect.Effect.TheVariants as effect
 use Rattle.decoder.specs.declared.heard.Heard.{Heard}
 use Rattle.decoder.specs.declared.records.Mobile.{Mobile}
-use Rattle.decoder.specs.declared.records.Basic.{Basic}
-use Rattle.decoder.specs.declared.records.Extended.{Extended}
+use Rattle.decoder.specs.declared.records.Accessory.{Accessory}
 use Rattle.decoder.specs.declared.role.Role.{Role}
 use Rattle.decoder.specs.declared.view.MobileView.{MobileView}
 use Rattle.decoder.specs.declared.view.AccessoryView.{AccessoryView}
 use Rattle.decoder.specs.Accesses.{access_of}
-use Rattle.decoder.specs.Fresh.{fresh_mobile, fresh_basic, fresh_extended}
-use Rattle.decoder.specs.Hearing.{own_address, mobile_role, basic_role, extended_role}
+use Rattle.decoder.specs.Fresh.{Basic, Extended, fresh_mobile, fresh_accessory}
+use Rattle.decoder.specs.Hearing.{own_address, mobile_role}
 use Rattle.decoder.specs.Mobiles.{mobile_after, mobile_noted, mobile_plan}
-use Rattle.decoder.specs.Accessories.{basic_after, extended_after, basic_plan, extended_plan}
+use Rattle.decoder.specs.Accessories.{AccessoryKind, basic_kind, extended_kind, accessory_after, accessory_plan}
 
 -- a record of one kind, and the variables 1 to 1024 in their order
 pub record Own (X : Type 0) : Type 0 where
@@ -34,10 +33,10 @@ own x w = record { rec = x; vars = w }
 abbrev pub variable : List ℕ → ℕ → ℕ
 variable vars n = slice_index vars (n - 1)
 
--- the variable that an instruction names, or 0 where it names none
-abbrev pub named : List ℕ → Option Access → ℕ
-named vars None = 0
-named vars (Some a) = variable vars a.cv.number
+-- the variable that an access names, if it names one
+abbrev pub named : List ℕ → Option Access → Option ℕ
+named vars None = None
+named vars (Some a) = Some (variable vars a.cv.number)
 
 -- what decides among the variables
 abbrev pub mobile_view : List ℕ → Option Access → MobileView
@@ -55,10 +54,6 @@ accessory_view vars a = record { config = variable vars 541; value = named vars 
 abbrev pub applied : Option Effect → List ℕ → List ℕ
 applied None vars = vars
 applied (Some (effect.Put cv x)) vars = slice_set vars (cv.number - 1) x
-applied (Some (effect.Consist x)) vars = slice_set vars 18 x
-applied (Some (effect.Config x)) vars = slice_set vars 28 x
-applied (Some (effect.Acceleration x)) vars = slice_set vars 22 x
-applied (Some (effect.Deceleration x)) vars = slice_set vars 23 x
 applied (Some effect.HardReset) vars = slice_set (slice_set (slice_set (slice_set vars 18 0) 28 2) 30 16) 31 0
 
 -- a packet, these bytes, as it is heard
@@ -90,25 +85,21 @@ mobile_rules = record {
   waiting = λ x. x.state.waiting;
 }
 
-abbrev pub basic_rules : Rules Basic
-basic_rules = record {
+abbrev pub accessory_rules : {S : Type 0} → AccessoryKind S → Rules (Accessory S)
+accessory_rules k = record {
   offset = 512;
-  hears = λ o t. basic_role o.rec.address t;
-  obeys = λ o r bs i. own (record { address = o.rec.address; state = basic_after o.rec.state (accessory_view o.vars (access_of i)) (as_heard r bs i) }) (applied (basic_plan o.rec.state (accessory_view o.vars (access_of i)) (as_heard r bs i)) o.vars);
-  starts = λ x. fresh_basic x.address;
-  unwaits = λ x. record { address = x.address; state = record { outputs = x.state.outputs; waiting = None; reply = x.state.reply } };
+  hears = λ o t. k.role o.rec.address t;
+  obeys = λ o r bs i. own (record { address = o.rec.address; state = accessory_after k o.rec.state (accessory_view o.vars (access_of i)) (as_heard r bs i) }) (applied (accessory_plan k o.rec.state (accessory_view o.vars (access_of i)) (as_heard r bs i)) o.vars);
+  starts = λ x. fresh_accessory k x.address;
+  unwaits = λ x. record { address = x.address; state = record { shown = x.state.shown; waiting = None; reply = x.state.reply } };
   waiting = λ x. x.state.waiting;
 }
 
+abbrev pub basic_rules : Rules Basic
+basic_rules = accessory_rules basic_kind
+
 abbrev pub extended_rules : Rules Extended
-extended_rules = record {
-  offset = 512;
-  hears = λ o t. extended_role o.rec.address t;
-  obeys = λ o r bs i. own (record { address = o.rec.address; state = extended_after o.rec.state (accessory_view o.vars (access_of i)) (as_heard r bs i) }) (applied (extended_plan o.rec.state (accessory_view o.vars (access_of i)) (as_heard r bs i)) o.vars);
-  starts = λ x. fresh_extended x.address;
-  unwaits = λ x. record { address = x.address; state = record { aspect = x.state.aspect; waiting = None; reply = x.state.reply } };
-  waiting = λ x. x.state.waiting;
-}
+extended_rules = accessory_rules extended_kind
 
 -- what happens to one decoder
 pub data Event : Type 0 where

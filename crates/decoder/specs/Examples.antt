@@ -9,9 +9,7 @@ use Rattle.state.specs.declared.speed.Speed.TheVariants.{Stop, EmergencyStop, Ru
 use Rattle.state.specs.Groups.{function_at}
 use Rattle.state.specs.Kept.{state_at}
 use Rattle.decoder.specs.declared.records.Mobile.{Mobile}
-use Rattle.decoder.specs.declared.records.Basic.{Basic}
-use Rattle.decoder.specs.declared.records.Extended.{Extended}
-use Rattle.decoder.specs.Fresh.{fresh_mobile, fresh_basic, fresh_extended}
+use Rattle.decoder.specs.Fresh.{Basic, Extended, fresh_mobile, fresh_basic, fresh_extended}
 use Rattle.decoder.specs.Alone.{Own, Event, own, variable, hearing, life, mobile_rules, basic_rules, extended_rules}
 use Rattle.decoder.specs.Alone.Event.{heard}
 
@@ -74,10 +72,10 @@ pub record Examples : Type 0 where
   -- long 1000, FL on
   pub light1000 : function_at (mobile_hears mobile1000 ((0xc3 ∷ 0xe8 ∷ 0x90 ∷ 0xbb ∷ []) ∷ [])).rec.state.functions.on 0 ≡ Some true
   -- basic 1, output 0 on; to all basic
-  pub output : (life basic_rules (basic_at 1) (packets ((0x81 ∷ 0xf8 ∷ 0x79 ∷ []) ∷ []))).rec.state.outputs ≡ slice_set (replicate 8 false) 0 true
-  pub all_basic : (life basic_rules (basic_at 200) (packets ((0xbf ∷ 0x88 ∷ 0x37 ∷ []) ∷ []))).rec.state.outputs ≡ slice_set (replicate 8 false) 0 true
+  pub output : (life basic_rules (basic_at 1) (packets ((0x81 ∷ 0xf8 ∷ 0x79 ∷ []) ∷ []))).rec.state.shown ≡ slice_set (replicate 8 false) 0 true
+  pub all_basic : (life basic_rules (basic_at 200) (packets ((0xbf ∷ 0x88 ∷ 0x37 ∷ []) ∷ []))).rec.state.shown ≡ slice_set (replicate 8 false) 0 true
   -- extended 1, aspect 5
-  pub aspect : (life extended_rules (extended_at 1) (packets ((0x80 ∷ 0x73 ∷ 0x05 ∷ 0xf6 ∷ []) ∷ []))).rec.state.aspect ≡ 5
+  pub aspect : (life extended_rules (extended_at 1) (packets ((0x80 ∷ 0x73 ∷ 0x05 ∷ 0xf6 ∷ []) ∷ []))).rec.state.shown ≡ 5
   -- state 129 on
   pub state129 : state_at (mobile_hears mobile3 ((0x03 ∷ 0xc0 ∷ 0x81 ∷ 0x01 ∷ 0x43 ∷ []) ∷ [])).rec.state.states.bits 129 ≡ Some true
   -- twice: variable 4 is 10; once, or with another packet between, it is not

@@ -1,11 +1,9 @@
 -- A decoder as it is fitted: as at power-up, and each of its variables with its first value.
 use Rattle.std.specs.Prelude.{ℕ, ◌+◌, ◌/◌, ◌%◌, List, replicate, slice_set}
 use Rattle.decoder.specs.declared.records.Mobile.{Mobile}
-use Rattle.decoder.specs.declared.records.Basic.{Basic}
-use Rattle.decoder.specs.declared.records.Extended.{Extended}
 use Rattle.decoder.specs.declared.role.Address.{Address}
 use Rattle.decoder.specs.declared.role.Address.TheVariants.{Short, Long}
-use Rattle.decoder.specs.Fresh.{fresh_mobile, fresh_basic, fresh_extended}
+use Rattle.decoder.specs.Fresh.{Basic, Extended, fresh_mobile, fresh_basic, fresh_extended}
 use Rattle.decoder.specs.Alone.{Own, own}
 
 -- all 1024 variables are 0

@@ -30,6 +30,10 @@ is_long a (Some (address.Long b)) = a == b
 abbrev pub is_consist : ℕ → ℕ → Bool
 is_consist a consist = not (consist % 128 == 0) && a == consist % 128
 
+-- the address of its consist, if it is in one
+abbrev pub consist_of : MobileView → Option ℕ
+consist_of v = cond (v.consist % 128 == 0) None (Some (v.consist % 128))
+
 -- broadcast counts before own, own before consist
 abbrev pub mobile_role : MobileView → Target → Option Role
 mobile_role v Idle = None

@@ -1,10 +1,11 @@
 -- What the rules come to, in the words of the track.
-use Rattle.std.specs.Prelude.{◌≡◌, ℕ, ◌+◌, ◌-◌, ◌≤◌, Bool, true, false, cond, ◌&&◌, ◌⊎◌, List, length, Some, None, ◌≢◌, nat_le, nat_lt, slice_index_or}
+use Rattle.std.specs.Prelude.{◌≡◌, ℕ, ◌+◌, ◌-◌, ◌≤◌, Bool, true, false, cond, ◌&&◌, ◌⊎◌, List, length, Some, None, Option, ◌≢◌, nat_le, nat_lt, slice_index_or}
 use Rattle.packet.specs.declared.instruction.FunctionGroup.{FunctionGroup}
 use Rattle.packet.specs.declared.instruction.FunctionGroup.TheVariants.{F0ToF4, F5ToF8, F9ToF12, F13ToF20, F21ToF28, F29ToF36, F37ToF44, F45ToF52, F53ToF60, F61ToF68}
 use Rattle.packet.specs.declared.instruction.Instruction.{Instruction}
 use Rattle.packet.specs.declared.instruction.Instruction.TheVariants.{NoOperation, Reset, HardReset, AdvancedAddressing, AcknowledgmentRequest, Consist, Speed, Speed126, Functions, BinaryStateShort, BinaryStateLong, AccelerationAdjustment, DecelerationAdjustment, VerifyByte, WriteByte, VerifyBit, WriteBit, Output, Aspect}
 use Rattle.packet.specs.declared.target.Target.{Target}
+use Rattle.packet.specs.Groups.{lowest_of, width_of}
 use Rattle.format.specs.Reading.{packet_read}
 use Rattle.state.specs.declared.step.Step.{Step}
 use Rattle.state.specs.Bits.{bit_of}
@@ -15,6 +16,7 @@ use Rattle.state.specs.Starting.{mobile_start}
 use Rattle.decoder.specs.declared.records.Mobile.{Mobile}
 use Rattle.decoder.specs.declared.role.Role.{Role}
 use Rattle.decoder.specs.declared.role.Role.TheVariants as role
+use Rattle.decoder.specs.declared.effect.Accessed.{Accessed}
 use Rattle.decoder.specs.Accesses.{is_write}
 use Rattle.decoder.specs.Replies.{reply_after}
 use Rattle.decoder.specs.Mobiles.{is_speed, mobile_noted}
@@ -33,8 +35,8 @@ pub record KindLaws {X : Type 0} (m : Rules X) : Type 0 where
 -- the reply is none unless the packet came to the own address, replies were enabled, and the instruction acted
 abbrev pub ReplyNeedsAll : Type 0
 ReplyNeedsAll =
-    (config v : ℕ) (r : Role) (acted : Bool) (i : Instruction)
-    → (reply_after config v r acted i ≡ None) ⊎ ((r ≡ role.Own) × (bit_of config 3 ≡ true) × (acted ≡ true))
+    (config : ℕ) (a : Option Accessed) (r : Role) (acted : Bool)
+    → (reply_after config a r acted ≡ None) ⊎ ((r ≡ role.Own) × (bit_of config 3 ≡ true) × (acted ≡ true))
 
 -- a reset brings exactly the volatile part to its power-up state; the reply to it is set after that
 abbrev pub ResetIsPowerUp : Type 0
@@ -57,31 +59,7 @@ ByConsistOnlySpeed = (o : Own Mobile) (bs : List ℕ) (i : Instruction) → Only
 abbrev pub StepsInScale : Type 0
 StepsInScale = (s : Step) → s.number ≤ top s.scale
 
--- the functions that a group names, from its lowest on; FL only where `light` says so
-abbrev pub lowest_of : FunctionGroup → ℕ
-lowest_of F0ToF4 = 1
-lowest_of F5ToF8 = 5
-lowest_of F9ToF12 = 9
-lowest_of F13ToF20 = 13
-lowest_of F21ToF28 = 21
-lowest_of F29ToF36 = 29
-lowest_of F37ToF44 = 37
-lowest_of F45ToF52 = 45
-lowest_of F53ToF60 = 53
-lowest_of F61ToF68 = 61
-
-abbrev pub width_of : FunctionGroup → ℕ
-width_of F0ToF4 = 4
-width_of F5ToF8 = 4
-width_of F9ToF12 = 4
-width_of F13ToF20 = 8
-width_of F21ToF28 = 8
-width_of F29ToF36 = 8
-width_of F37ToF44 = 8
-width_of F45ToF52 = 8
-width_of F53ToF60 = 8
-width_of F61ToF68 = 8
-
+-- a function that the group names, F1 or above
 abbrev pub is_in_group : FunctionGroup → ℕ → Bool
 is_in_group g k = nat_le (lowest_of g) k && nat_lt k (lowest_of g + width_of g)
 

@@ -1,5 +1,7 @@
 -- What a mobile decoder does at an instruction that it hears.
 use Rattle.std.specs.Prelude.{ℕ, ◌+◌, ◌%◌, Bool, true, false, cond, not, ◌&&◌, Some, None, Option, ◌==◌, nat_lt}
+use Rattle.std.proofs.Common.{lit≤}
+use Rattle.packet.specs.declared.cv.CvNumber.{CvNumber}
 use Rattle.packet.specs.declared.instruction.Instruction.{Instruction}
 use Rattle.packet.specs.declared.instruction.Instruction.TheVariants.{NoOperation, Reset, HardReset, AdvancedAddressing, AcknowledgmentRequest, Consist, Speed, Speed126, Functions, BinaryStateShort, BinaryStateLong, AccelerationAdjustment, DecelerationAdjustment, VerifyByte, WriteByte, VerifyBit, WriteBit, Output, Aspect}
 use Rattle.state.specs.declared.scale.Scale.{Scale}
@@ -14,14 +16,14 @@ use Rattle.state.specs.Speeds.{speed_at}
 use Rattle.state.specs.Groups.{switched, lit}
 use Rattle.state.specs.Kept.{all_states, low_states, kept_after}
 use Rattle.state.specs.Starting.{mobile_start}
-use Rattle.decoder.specs.declared.effect.Access.{Access}
 use Rattle.decoder.specs.declared.effect.Effect.{Effect}
 use Rattle.decoder.specs.declared.effect.Effect.TheVariants as effect
 use Rattle.decoder.specs.declared.heard.Heard.{Heard}
 use Rattle.decoder.specs.declared.role.Role.{Role}
 use Rattle.decoder.specs.declared.role.Role.TheVariants as role
+use Rattle.decoder.specs.declared.effect.Accessed.{Accessed}
 use Rattle.decoder.specs.declared.view.MobileView.{MobileView}
-use Rattle.decoder.specs.Accesses.{access_of, result, waits_after, access_acts}
+use Rattle.decoder.specs.Accesses.{result, waits_after, access_acts, access_of, accessed}
 use Rattle.decoder.specs.Hearing.{in_consist}
 use Rattle.decoder.specs.Replies.{is_own, reply_after}
 
@@ -44,10 +46,10 @@ fully_acts s v r p (BinaryStateShort on number) = true
 fully_acts s v r p (BinaryStateLong on number) = not (nat_lt 2047 number)
 fully_acts s v r p (AccelerationAdjustment value) = true
 fully_acts s v r p (DecelerationAdjustment value) = true
-fully_acts s v r p (VerifyByte cv value) = access_acts 0 s.waiting p v.value (access_of (VerifyByte cv value))
-fully_acts s v r p (WriteByte cv value) = access_acts 0 s.waiting p v.value (access_of (WriteByte cv value))
-fully_acts s v r p (VerifyBit cv bit value) = access_acts 0 s.waiting p v.value (access_of (VerifyBit cv bit value))
-fully_acts s v r p (WriteBit cv bit value) = access_acts 0 s.waiting p v.value (access_of (WriteBit cv bit value))
+fully_acts s v r p (VerifyByte cv value) = access_acts 0 s.waiting p (accessed (access_of (VerifyByte cv value)) v.value)
+fully_acts s v r p (WriteByte cv value) = access_acts 0 s.waiting p (accessed (access_of (WriteByte cv value)) v.value)
+fully_acts s v r p (VerifyBit cv bit value) = access_acts 0 s.waiting p (accessed (access_of (VerifyBit cv bit value)) v.value)
+fully_acts s v r p (WriteBit cv bit value) = access_acts 0 s.waiting p (accessed (access_of (WriteBit cv bit value)) v.value)
 fully_acts s v r p (Output number on) = false
 fully_acts s v r p (Aspect number) = false
 
@@ -84,10 +86,7 @@ directed v role.Everyone forward = forward
 directed v role.Own forward = forward
 directed v role.Consist forward = cond (bit_of v.consist 7) (not forward) forward
 
--- a speed in 28 or 14 steps, by bit 1 of variable 29; in 14 steps FL becomes bit 4 of the code
-abbrev pub scale_in : MobileView → Scale
-scale_in v = cond (bit_of v.config 1) TwentyEight Fourteen
-
+-- a speed in some scale
 abbrev pub sped : MobileState → Scale → Bool → ℕ → MobileState
 sped s scale forward code =
     record {
@@ -107,6 +106,7 @@ abbrev pub with_states : MobileState → binary_states.BinaryStates → MobileSt
 with_states s b =
     record { forward = s.forward; speed = s.speed; functions = s.functions; states = b; waiting = s.waiting; reply = s.reply }
 
+-- a speed in 28 or 14 steps, by bit 1 of variable 29; in 14 steps FL becomes bit 4 of the code
 abbrev pub sped_short : MobileState → MobileView → Bool → ℕ → MobileState
 sped_short s v forward code =
     cond (bit_of v.config 1) (sped s TwentyEight forward code)
@@ -135,29 +135,42 @@ mobile_changed s v r (Output number on) = s
 mobile_changed s v r (Aspect number) = s
 
 -- what a long form that acts does to its variable
-abbrev pub access_effect : ℕ → Option Access → Option Effect
-access_effect v None = None
-access_effect v (Some a) = cond a.writes (Some (effect.Put a.cv (result a.change v))) None
+abbrev pub access_effect : Option Accessed → Option Effect
+access_effect None = None
+access_effect (Some a) = cond a.access.writes (Some (effect.Put a.access.cv (result a.access.change a.value))) None
+
+-- the variables that an instruction names by itself
+abbrev pub consist_address : CvNumber
+consist_address = record { number = 19; least = lit≤ tt; most = lit≤ tt }
+
+abbrev pub acceleration_adjustment : CvNumber
+acceleration_adjustment = record { number = 23; least = lit≤ tt; most = lit≤ tt }
+
+abbrev pub deceleration_adjustment : CvNumber
+deceleration_adjustment = record { number = 24; least = lit≤ tt; most = lit≤ tt }
+
+abbrev pub configuration : CvNumber
+configuration = record { number = 29; least = lit≤ tt; most = lit≤ tt }
 
 -- and what an instruction that acts does to the variables
 abbrev pub mobile_effect : MobileView → Instruction → Option Effect
 mobile_effect v NoOperation = None
 mobile_effect v Reset = None
 mobile_effect v HardReset = Some effect.HardReset
-mobile_effect v (AdvancedAddressing on) = Some (effect.Config (with_bit v.config 5 on))
+mobile_effect v (AdvancedAddressing on) = Some (effect.Put configuration (with_bit v.config 5 on))
 mobile_effect v AcknowledgmentRequest = None
-mobile_effect v (Consist reversed address) = Some (effect.Consist (cond reversed 128 0 + address % 128))
+mobile_effect v (Consist reversed address) = Some (effect.Put consist_address (cond reversed 128 0 + address % 128))
 mobile_effect v (Speed forward code) = None
 mobile_effect v (Speed126 forward code) = None
 mobile_effect v (Functions group bits) = None
 mobile_effect v (BinaryStateShort on number) = None
 mobile_effect v (BinaryStateLong on number) = None
-mobile_effect v (AccelerationAdjustment value) = Some (effect.Acceleration value)
-mobile_effect v (DecelerationAdjustment value) = Some (effect.Deceleration value)
-mobile_effect v (VerifyByte cv value) = access_effect v.value (access_of (VerifyByte cv value))
-mobile_effect v (WriteByte cv value) = access_effect v.value (access_of (WriteByte cv value))
-mobile_effect v (VerifyBit cv bit value) = access_effect v.value (access_of (VerifyBit cv bit value))
-mobile_effect v (WriteBit cv bit value) = access_effect v.value (access_of (WriteBit cv bit value))
+mobile_effect v (AccelerationAdjustment value) = Some (effect.Put acceleration_adjustment value)
+mobile_effect v (DecelerationAdjustment value) = Some (effect.Put deceleration_adjustment value)
+mobile_effect v (VerifyByte cv value) = access_effect (accessed (access_of (VerifyByte cv value)) v.value)
+mobile_effect v (WriteByte cv value) = access_effect (accessed (access_of (WriteByte cv value)) v.value)
+mobile_effect v (VerifyBit cv bit value) = access_effect (accessed (access_of (VerifyBit cv bit value)) v.value)
+mobile_effect v (WriteBit cv bit value) = access_effect (accessed (access_of (WriteBit cv bit value)) v.value)
 mobile_effect v (Output number on) = None
 mobile_effect v (Aspect number) = None
 
@@ -170,7 +183,7 @@ mobile_noted s w r =
 abbrev pub mobile_after : MobileState → MobileView → Heard → MobileState
 mobile_after s v h =
     mobile_noted (cond (mobile_acts s v h.role h.packet h.instruction) (mobile_changed s v h.role h.instruction) s) (waits_after s.waiting h.role h.packet h.instruction)
-    (reply_after v.config v.value h.role (mobile_acts s v h.role h.packet h.instruction) h.instruction)
+    (reply_after v.config (accessed (access_of h.instruction) v.value) h.role (mobile_acts s v h.role h.packet h.instruction))
 
 abbrev pub mobile_plan : MobileState → MobileView → Heard → Option Effect
 mobile_plan s v h = cond (mobile_acts s v h.role h.packet h.instruction) (mobile_effect v h.instruction) None

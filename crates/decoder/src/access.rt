@@ -1,8 +1,8 @@
 ghost use Rattle.std.specs.Prelude.{◌≡◌};
-ghost use Rattle.decoder.specs.Accesses.{access_of, agrees as agrees_of, result as result_of, barred as barred_of, writes_in, waits_after, access_acts};
+ghost use Rattle.decoder.specs.Accesses.{access_of, accessed as accessed_of, agrees as agrees_of, result as result_of, barred as barred_of, writes_in, waits_after, access_acts};
 ghost use Rattle.decoder.specs.Mobiles.{access_effect};
 
-use crate::effect::{Access, Change, Effect};
+use crate::effect::{Access, Accessed, Change, Effect};
 use crate::heard::Heard;
 use crate::role::Role;
 use packet::Instruction;
@@ -44,25 +44,35 @@ impl Change {
     }
 }
 
-/// Whether packets never write the variable, by the offset of the kind's variables.
-fn barred(offset: u16, number: u16) -> bool
+/// Whether packets never write the variable of that number, where so many stand before the kind's own.
+pub fn barred(offset: u16, number: u16) -> bool
     ensures { result ≡ barred_of offset number }
 {
     matches!(number.checked_sub(offset), Some(7 | 8))
 }
 
-/// What a long form that acts does to its variable, which has this value.
-pub(crate) fn access_effect(value: u8, access: Option<Access>) -> Option<Effect>
-    ensures { result ≡ access_effect value access }
+/// What a long form that acts does to its variable.
+pub(crate) fn access_effect(accessed: Option<Accessed>) -> Option<Effect>
+    ensures { result ≡ access_effect accessed }
 {
-    let Access { cv, writes, change } = access?;
-    writes.then_some(Effect::Put {
-        cv,
-        value: change.result(value),
+    let Accessed { access, value } = accessed?;
+    access.writes.then_some(Effect::Put {
+        cv: access.cv,
+        value: access.change.result(value),
     })
 }
 
 impl Heard {
+    /// The long form that it is, if it is one and this is the variable that it names.
+    pub(crate) fn accessed(self, value: Option<u8>) -> Option<Accessed>
+        ensures { result ≡ accessed_of (access_of self.instruction) value }
+    {
+        Some(Accessed {
+            access: access_of(self.instruction)?,
+            value: value?,
+        })
+    }
+
     /// Whether it is a write that counts: one by the own address or to all.
     fn writes(self) -> bool
         ensures { result ≡ writes_in self.role self.instruction }
@@ -78,15 +88,20 @@ impl Heard {
         (self.writes() && !self.packet.repeats(waiting)).then_some(self.packet)
     }
 
-    /// Whether it acts as a long form, on a variable with this value.
-    pub(crate) fn accesses(self, offset: u16, waiting: Option<WaitingWrite>, value: u8) -> bool
-        ensures { result ≡ access_acts offset waiting self.packet value (access_of self.instruction) }
+    /// Whether it acts as a long form, this one.
+    pub(crate) fn accesses(
+        self,
+        offset: u16,
+        waiting: Option<WaitingWrite>,
+        accessed: Option<Accessed>,
+    ) -> bool
+        ensures { result ≡ access_acts offset waiting self.packet accessed }
     {
-        match access_of(self.instruction) {
-            Some(access) if access.writes => {
+        match accessed {
+            Some(Accessed { access, .. }) if access.writes => {
                 self.packet.repeats(waiting) && !barred(offset, access.cv.get())
             }
-            Some(access) => access.change.agrees(value),
+            Some(Accessed { access, value }) => access.change.agrees(value),
             None => false,
         }
     }

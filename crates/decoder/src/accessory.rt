@@ -1,78 +1,39 @@
-ghost use Rattle.std.specs.Prelude.{◌≡◌, cond, None};
-ghost use Rattle.decoder.specs.Accesses.{access_of as access_in, waits_after};
-ghost use Rattle.decoder.specs.Replies.{reply_after};
-ghost use Rattle.decoder.specs.Mobiles.{access_effect};
-ghost use Rattle.decoder.specs.Accessories.{acts_as, basic_after, extended_after, basic_plan, extended_plan};
+ghost use Rattle.std.specs.Prelude.{◌≡◌};
+ghost use Rattle.decoder.specs.Accessories.{accessory_after, accessory_plan};
 
-use crate::access::{access_effect, access_of};
+use crate::access::access_effect;
 use crate::effect::Effect;
 use crate::heard::Heard;
-use crate::records::{Basic, Extended};
+use crate::records::Accessory;
+use crate::role::Role;
+use crate::shown::Shown;
 use crate::view::AccessoryView;
-use packet::Instruction;
-use state::{Reply, WaitingWrite};
+use packet::Target;
 
-/// The offset of the variables of accessory decoders.
-const OFFSET: u16 = 512;
-
-/// What a packet makes of what waits, of the reply and of the variables. What the decoder shows at it always acts.
-fn settle(
-    waiting: &mut Option<WaitingWrite>,
-    reply: &mut Option<Reply>,
-    view: &AccessoryView,
-    heard: Heard,
-    shows: bool,
-) -> Option<Effect>
-    ensures waiting { waiting.new ≡ waits_after waiting.old heard.role heard.packet heard.instruction }
-    ensures reply { reply.new ≡ reply_after view.now.config view.now.value heard.role (acts_as shows waiting.old view.now heard) heard.instruction }
-    ensures effect { result ≡ cond (acts_as shows waiting.old view.now heard) (access_effect view.now.value (access_in heard.instruction)) None }
-{
-    let acted = shows || heard.accesses(OFFSET, *waiting, view.value);
-    *waiting = heard.waits_after(*waiting);
-    *reply = heard.reply(view.config, view.value, acted);
-    if acted {
-        access_effect(view.value, access_of(heard.instruction))
-    } else {
-        None
+impl<S: Shown> Accessory<S> {
+    /// By which address a packet to `target` is heard, if it is heard.
+    pub fn role(&self, target: Target) -> Option<Role>
+        ensures { result ≡ S.Shown.kind.role self.now.address target }
+    {
+        S::role(self.address, target)
     }
-}
 
-// The two `obey` share `settle`. A trait would have to name the fields that they set one by one, and be longer than both.
-
-impl Basic {
     /// Obeys a packet that it hears, and answers what becomes of the variables.
     pub fn obey(&mut self, view: &AccessoryView, heard: Heard) -> Option<Effect>
-        ensures effect { result ≡ basic_plan self.old.state view.now heard }
-        ensures after { self.new.state ≡ basic_after self.old.state view.now heard }
+        ensures effect { result ≡ accessory_plan S.Shown.kind self.old.state view.now heard }
+        ensures after { self.new.state ≡ accessory_after S.Shown.kind self.old.state view.now heard }
         ensures address { self.new.address ≡ self.old.address }
     {
         let state = &mut self.state;
-        let shows = match heard.instruction {
-            Instruction::Output { output, on } => {
-                state.outputs[usize::from(output % 8)] = on;
-                true
-            }
-            _ => false,
-        };
-        settle(&mut state.waiting, &mut state.reply, view, heard, shows)
-    }
-}
-
-impl Extended {
-    /// Obeys a packet that it hears, and answers what becomes of the variables.
-    pub fn obey(&mut self, view: &AccessoryView, heard: Heard) -> Option<Effect>
-        ensures effect { result ≡ extended_plan self.old.state view.now heard }
-        ensures after { self.new.state ≡ extended_after self.old.state view.now heard }
-        ensures address { self.new.address ≡ self.old.address }
-    {
-        let state = &mut self.state;
-        let shows = match heard.instruction {
-            Instruction::Aspect { aspect } => {
-                state.aspect = aspect;
-                true
-            }
-            _ => false,
-        };
-        settle(&mut state.waiting, &mut state.reply, view, heard, shows)
+        let accessed = heard.accessed(view.value);
+        let shown = state.shown.after(heard.instruction);
+        let acted = shown.is_some()
+            || heard.accesses(AccessoryView::OFFSET, state.waiting, accessed);
+        state.shown = shown.unwrap_or(state.shown);
+        // Not shared with a mobile decoder, which a reset brings to its start between these two lines and what is
+        // noted then.
+        state.waiting = heard.waits_after(state.waiting);
+        state.reply = heard.reply(view.config, accessed, acted);
+        if acted { access_effect(accessed) } else { None }
     }
 }

@@ -8,7 +8,7 @@ pub enum Change {
 }
 
 /// A long-form instruction: it verifies a variable, or writes it.
-// `writes` is no enum with the change in it: both kinds name a variable and a change, and most that read them read both alike.
+// `writes` is a flag and no enum with the change in it: both kinds carry the same, and who reads it asks for one yes or no.
 #[derive(Clone, Copy)]
 pub struct Access {
     pub cv: CvNumber,
@@ -16,19 +16,18 @@ pub struct Access {
     pub change: Change,
 }
 
+/// A long-form instruction, and the variable that it names as it stands.
+#[derive(Clone, Copy)]
+pub(crate) struct Accessed {
+    pub access: Access,
+    pub value: u8,
+}
+
 /// What an instruction does to the variables.
 #[derive(Clone, Copy)]
 pub enum Effect {
     /// One variable gets a value.
     Put { cv: CvNumber, value: u8 },
-    /// Variable 19 gets a value.
-    Consist(u8),
-    /// Variable 29 gets a value.
-    Config(u8),
-    /// Variable 23 gets a value.
-    Acceleration(u8),
-    /// Variable 24 gets a value.
-    Deceleration(u8),
     /// Variables 19, 29, 31 and 32 get their defaults.
     HardReset,
 }

@@ -1,7 +1,6 @@
 ghost use Rattle.std.specs.Prelude.{◌≡◌};
-ghost use Rattle.decoder.specs.Hearing.{own_address, is_consist, mobile_role, in_consist, by_accessory, basic_role, extended_role};
+ghost use Rattle.decoder.specs.Hearing.{own_address, consist_of, mobile_role, in_consist, by_accessory};
 
-use crate::records::{Basic, Extended};
 use crate::role::{Address, Role};
 use crate::view::MobileView;
 use packet::Target;
@@ -13,7 +12,7 @@ pub fn own_address(config: u8, short: u8, high: u8, low: u8) -> Option<Address>
 {
     if has_bit(config, 5) {
         match high {
-            192..=231 => Some(Address::Long(256 * u16::from(high - 192) + u16::from(low))),
+            192..=231 => Some(Address::Long(u16::from_be_bytes([high - 192, low]))),
             _ => None,
         }
     } else {
@@ -24,13 +23,17 @@ pub fn own_address(config: u8, short: u8, high: u8, low: u8) -> Option<Address>
     }
 }
 
-fn is_consist(address: u8, consist: u8) -> bool
-    ensures { result ≡ is_consist address consist }
-{
-    consist % 128 != 0 && address == consist % 128
-}
-
 impl MobileView {
+    /// The address of its consist, if it is in one.
+    fn consist_address(&self) -> Option<u8>
+        ensures { result ≡ consist_of self.now }
+    {
+        match self.consist % 128 {
+            0 => None,
+            address => Some(address),
+        }
+    }
+
     /// By which address a packet to `target` is heard, if it is heard.
     pub fn role(&self, target: Target) -> Option<Role>
         ensures { result ≡ mobile_role self.now target }
@@ -40,7 +43,9 @@ impl MobileView {
             Target::Short { address } if self.own == Some(Address::Short(address)) => Some(
                 Role::Own,
             ),
-            Target::Short { address } if is_consist(address, self.consist) => Some(Role::Consist),
+            Target::Short { address } if self.consist_address() == Some(address) => Some(
+                Role::Consist,
+            ),
             Target::Long { address } if self.own == Some(Address::Long(address)) => Some(Role::Own),
             _ => None,
         }
@@ -50,12 +55,13 @@ impl MobileView {
     pub(crate) fn in_consist(&self) -> bool
         ensures { result ≡ in_consist self.now }
     {
-        self.consist % 128 != 0 && self.own != Some(Address::Short(self.consist % 128))
+        self.consist_address()
+            .is_some_and(|address| self.own != Some(Address::Short(address)))
     }
 }
 
-// A trait over the two kinds would name a target and a broadcast for each, which is all that their `role` says beside this.
-fn by_accessory(own: u16, all: u16, address: u16) -> Option<Role>
+/// By which of its addresses an accessory decoder hears a packet: its own, or that of all of its kind.
+pub(crate) fn by_accessory(own: u16, all: u16, address: u16) -> Option<Role>
     ensures { result ≡ by_accessory own all address }
 {
     if address == own {
@@ -64,29 +70,5 @@ fn by_accessory(own: u16, all: u16, address: u16) -> Option<Role>
         Some(Role::Everyone)
     } else {
         None
-    }
-}
-
-impl Basic {
-    /// By which address a packet to `target` is heard, if it is heard.
-    pub fn role(&self, target: Target) -> Option<Role>
-        ensures { result ≡ basic_role self.now.address target }
-    {
-        match target {
-            Target::Basic { address } => by_accessory(self.address, 511, address),
-            _ => None,
-        }
-    }
-}
-
-impl Extended {
-    /// By which address a packet to `target` is heard, if it is heard.
-    pub fn role(&self, target: Target) -> Option<Role>
-        ensures { result ≡ extended_role self.now.address target }
-    {
-        match target {
-            Target::Extended { address } => by_accessory(self.address, 2047, address),
-            _ => None,
-        }
     }
 }

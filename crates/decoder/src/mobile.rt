@@ -1,17 +1,16 @@
 ghost use Rattle.std.specs.Prelude.{◌≡◌};
 ghost use Rattle.decoder.specs.Mobiles.{fully_acts, mobile_acts, directed as directed_in, sped as sped_to, sped_short, mobile_changed, mobile_effect, mobile_after, mobile_plan};
 
-use crate::access::{access_effect, access_of};
+use crate::access::access_effect;
 use crate::effect::Effect;
 use crate::heard::Heard;
 use crate::records::Mobile;
 use crate::role::Role;
 use crate::view::MobileView;
-use packet::Instruction;
+use packet::{CvNumber, Instruction};
 use state::{MobileState, Scale, Speed, has_bit, with_bit};
 
-/// The offset of the variables of mobile decoders.
-const OFFSET: u16 = 0;
+// The definitions take what is heard apart, since they go by the instruction; the functions take it whole.
 
 /// Whether a packet to the own address or to all acts.
 fn fully_acts(state: &MobileState, view: &MobileView, heard: Heard) -> bool
@@ -26,7 +25,11 @@ fn fully_acts(state: &MobileState, view: &MobileView, heard: Heard) -> bool
         Instruction::VerifyByte { .. }
         | Instruction::WriteByte { .. }
         | Instruction::VerifyBit { .. }
-        | Instruction::WriteBit { .. } => heard.accesses(OFFSET, state.waiting, view.value),
+        | Instruction::WriteBit { .. } => heard.accesses(
+            MobileView::OFFSET,
+            state.waiting,
+            heard.accessed(view.value),
+        ),
         _ => true,
     }
 }
@@ -105,20 +108,32 @@ fn change(state: &mut MobileState, view: &MobileView, heard: Heard)
 }
 
 /// What an instruction that acts does to the variables.
-fn effect(view: &MobileView, instruction: Instruction) -> Option<Effect>
-    ensures { result ≡ mobile_effect view.now instruction }
+fn effect(view: &MobileView, heard: Heard) -> Option<Effect>
+    ensures { result ≡ mobile_effect view.now heard.instruction }
 {
-    match instruction {
+    match heard.instruction {
         Instruction::HardReset => Some(Effect::HardReset),
-        Instruction::AdvancedAddressing { on } => {
-            Some(Effect::Config(with_bit(view.config, 5, on)))
-        }
-        Instruction::Consist { reversed, address } => {
-            Some(Effect::Consist(if reversed { 128 } else { 0 } + address % 128))
-        }
-        Instruction::AccelerationAdjustment { value } => Some(Effect::Acceleration(value)),
-        Instruction::DecelerationAdjustment { value } => Some(Effect::Deceleration(value)),
-        _ => access_effect(view.value, access_of(instruction)),
+        Instruction::AdvancedAddressing { on } => Some(Effect::Put {
+            cv: CvNumber::CONFIGURATION,
+            value: with_bit(view.config, 5, on),
+        }),
+        Instruction::Consist { reversed, address } => Some(Effect::Put {
+            cv: CvNumber::CONSIST_ADDRESS,
+            value: if reversed { 128 } else { 0 } + address % 128,
+        }),
+        Instruction::AccelerationAdjustment { value } => Some(Effect::Put {
+            cv: CvNumber::ACCELERATION_ADJUSTMENT,
+            value,
+        }),
+        Instruction::DecelerationAdjustment { value } => Some(Effect::Put {
+            cv: CvNumber::DECELERATION_ADJUSTMENT,
+            value,
+        }),
+        Instruction::VerifyByte { .. }
+        | Instruction::WriteByte { .. }
+        | Instruction::VerifyBit { .. }
+        | Instruction::WriteBit { .. } => access_effect(heard.accessed(view.value)),
+        _ => None,
     }
 }
 
@@ -130,16 +145,12 @@ impl Mobile {
     {
         let acted = acts(&self.state, view, heard);
         let waiting = heard.waits_after(self.state.waiting);
-        let reply = heard.reply(view.config, view.value, acted);
+        let reply = heard.reply(view.config, heard.accessed(view.value), acted);
         if acted {
             change(&mut self.state, view, heard);
         }
         self.state.waiting = waiting;
         self.state.reply = reply;
-        if acted {
-            effect(view, heard.instruction)
-        } else {
-            None
-        }
+        if acted { effect(view, heard) } else { None }
     }
 }

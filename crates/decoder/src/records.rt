@@ -1,7 +1,8 @@
 ghost use Rattle.std.specs.Prelude.{◌≡◌};
-ghost use Rattle.decoder.specs.Fresh.{fresh_mobile, fresh_basic, fresh_extended};
+ghost use Rattle.decoder.specs.Fresh.{fresh_mobile, fresh_accessory};
 
-use state::{BasicState, ExtendedState, MobileState};
+use crate::shown::Shown;
+use state::{AccessoryState, MobileState};
 
 /// A mobile decoder. Its address is in its variables.
 #[derive(Clone, Copy)]
@@ -9,21 +10,18 @@ pub struct Mobile {
     pub state: MobileState,
 }
 
-// Accessory decoders are two types and no generic one: what each hears, shows and starts with is its own, and would stand in two impls all the same.
-
-/// A basic accessory decoder at its address.
+/// An accessory decoder at its address. What it shows says of which kind it is.
 #[derive(Clone, Copy)]
-pub struct Basic {
+pub struct Accessory<S> {
     pub address: u16,
-    pub state: BasicState,
+    pub state: AccessoryState<S>,
 }
 
-/// An extended accessory decoder at its address.
-#[derive(Clone, Copy)]
-pub struct Extended {
-    pub address: u16,
-    pub state: ExtendedState,
-}
+/// A basic accessory decoder.
+pub type Basic = Accessory<[bool; 8]>;
+
+/// An extended accessory decoder.
+pub type Extended = Accessory<u8>;
 
 impl Mobile {
     /// As the power comes up.
@@ -36,26 +34,14 @@ impl Mobile {
     }
 }
 
-impl Basic {
+impl<S: Shown> Accessory<S> {
     /// As the power comes up.
-    pub fn new(address: u16) -> Basic
-        ensures { result ≡ fresh_basic address }
+    pub fn new(address: u16) -> Accessory<S>
+        ensures { result ≡ fresh_accessory S.Shown.kind address }
     {
-        Basic {
+        Accessory {
             address,
-            state: BasicState::new(),
-        }
-    }
-}
-
-impl Extended {
-    /// As the power comes up.
-    pub fn new(address: u16) -> Extended
-        ensures { result ≡ fresh_extended address }
-    {
-        Extended {
-            address,
-            state: ExtendedState::new(),
+            state: S::start(),
         }
     }
 }

@@ -9,8 +9,8 @@ pub struct MobileView {
     pub consist: u8,
     /// Variable 29.
     pub config: u8,
-    /// The variable that the instruction names, or 0 where it names none.
-    pub value: u8,
+    /// The variable that the instruction names, if it names one.
+    pub value: Option<u8>,
 }
 
 /// What decides among the variables of an accessory decoder.
@@ -18,6 +18,16 @@ pub struct MobileView {
 pub struct AccessoryView {
     /// Variable 541.
     pub config: u8,
-    /// The variable that the instruction names, or 0 where it names none.
-    pub value: u8,
+    /// The variable that the instruction names, if it names one.
+    pub value: Option<u8>,
+}
+
+impl MobileView {
+    /// How many variables stand before those of mobile decoders.
+    pub const OFFSET: u16 = 0;
+}
+
+impl AccessoryView {
+    /// How many variables stand before those of accessory decoders.
+    pub const OFFSET: u16 = 512;
 }

@@ -22,7 +22,7 @@ fn outputs_are_switched_at_their_address(rt: HostRuntime) -> Result<(), Fail> {
         )?,
         1
     );
-    assert!(rt; bank[0].state.outputs[0] && !bank[1].state.outputs[0]);
+    assert!(rt; bank[0].state.shown[0] && !bank[1].state.shown[0]);
     assert_eq!(rt;
         send(
             &mut bank,
@@ -33,7 +33,7 @@ fn outputs_are_switched_at_their_address(rt: HostRuntime) -> Result<(), Fail> {
         )?,
         2
     );
-    assert!(rt; bank[0].state.outputs[3] && bank[1].state.outputs[3]);
+    assert!(rt; bank[0].state.shown[3] && bank[1].state.shown[3]);
     Ok(())
 }
 
@@ -70,7 +70,7 @@ fn aspects_are_shown(rt: HostRuntime) -> Result<(), Fail> {
         )?,
         1
     );
-    assert_eq!(rt; bank[0].state.aspect, 5);
+    assert_eq!(rt; bank[0].state.shown, 5);
     assert_eq!(rt;
         send(
             &mut bank,
@@ -81,6 +81,6 @@ fn aspects_are_shown(rt: HostRuntime) -> Result<(), Fail> {
         )?,
         0
     );
-    assert_eq!(rt; bank[0].state.aspect, 5);
+    assert_eq!(rt; bank[0].state.shown, 5);
     Ok(())
 }

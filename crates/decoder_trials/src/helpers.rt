@@ -16,6 +16,7 @@ pub(crate) fn fit<M: Memory>(rt: &impl Abort, memory: &mut M, slot: usize, short
 }
 
 /// How many decoders of a bank hear a packet that is delivered to it.
+// No struct of the parameters: `deliver` takes none, and each test would make one for each packet.
 pub(crate) fn send<T: Listener, M: Memory>(
     bank: &mut [T],
     kind: Kind,
@@ -23,24 +24,20 @@ pub(crate) fn send<T: Listener, M: Memory>(
     memory: &mut M,
     packet: &[u8],
 ) -> Result<usize, Fail> {
-    match read(packet) {
-        Ok(said) => Ok(deliver(bank, kind, kinds, memory, packet, said)?),
-        Err(_) => Err(Fail::new("the packet does not read")),
-    }
+    let said = read(packet)?;
+    Ok(deliver(bank, kind, kinds, memory, packet, said)?)
 }
 
-/// The step that a decoder runs at, 0 where it stands.
-pub(crate) fn step(decoder: &Mobile) -> u8 {
+/// The step that a decoder runs at, if it runs.
+pub(crate) fn step(decoder: &Mobile) -> Option<u8> {
     match decoder.state.speed {
-        Speed::Running(step) => step.number(),
-        _ => 0,
+        Speed::Running(step) => Some(step.number()),
+        Speed::Stop | Speed::EmergencyStop => None,
     }
 }
 
 /// A variable of the decoder in a slot.
 pub(crate) fn value<M: Memory>(memory: &mut M, slot: usize, number: u16) -> Result<u8, Fail> {
-    let Some(cv) = CvNumber::new(number) else {
-        return Err(Fail::new("no such variable"));
-    };
+    let cv = CvNumber::new(number).ok_or("no such variable")?;
     Ok(variable(memory, slot, cv)?)
 }

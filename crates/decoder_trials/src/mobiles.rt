@@ -23,8 +23,8 @@ fn moves_one<M: Memory>(rt: &impl Abort, memory: &mut M) -> Result<(), Fail> {
         send(&mut bank, Kind::Mobile, &TWO, memory, &[0x05, 0x74, 0x71])?,
         1
     );
-    assert_eq!(rt; step(&bank[0]), 0);
-    assert_eq!(rt; step(&bank[1]), 6);
+    assert_eq!(rt; step(&bank[0]), None);
+    assert_eq!(rt; step(&bank[1]), Some(6));
     assert_eq!(rt;
         send(&mut bank, Kind::Mobile, &TWO, memory, &[0x09, 0x74, 0x7d])?,
         0
@@ -33,7 +33,7 @@ fn moves_one<M: Memory>(rt: &impl Abort, memory: &mut M) -> Result<(), Fail> {
         send(&mut bank, Kind::Mobile, &TWO, memory, &[0x00, 0x00, 0x00])?,
         2
     );
-    assert_eq!(rt; step(&bank[1]), 0);
+    assert_eq!(rt; step(&bank[1]), None);
     Ok(())
 }
 
@@ -76,9 +76,7 @@ fn a_setting_and_a_power_up_end_the_wait(rt: HostRuntime) -> Result<(), Fail> {
     let mut bank = [Mobile::new()];
     let one = [Kind::Mobile];
     fit(&rt, &mut memory, 0, 3);
-    let Some(cv) = CvNumber::new(60) else {
-        return Err(Fail::new("no such variable"));
-    };
+    let cv = CvNumber::new(60).ok_or("no such variable")?;
     send(&mut bank, Kind::Mobile, &one, &mut memory, &WRITE_THREE)?;
     assert_eq!(rt; set_variable(&mut bank, 0, &mut memory, 0, cv, 7), Ok(()));
     send(&mut bank, Kind::Mobile, &one, &mut memory, &WRITE_THREE)?;
@@ -117,7 +115,7 @@ fn a_consist_takes_speed_and_nothing_else(rt: HostRuntime) -> Result<(), Fail> {
         &mut memory,
         &[0x03, 0x74, 0x77],
     )?;
-    assert_eq!(rt; step(&bank[0]), 0);
+    assert_eq!(rt; step(&bank[0]), None);
     send(
         &mut bank,
         Kind::Mobile,
@@ -125,7 +123,7 @@ fn a_consist_takes_speed_and_nothing_else(rt: HostRuntime) -> Result<(), Fail> {
         &mut memory,
         &[0x05, 0x74, 0x71],
     )?;
-    assert_eq!(rt; step(&bank[0]), 6);
+    assert_eq!(rt; step(&bank[0]), Some(6));
     assert!(rt; !bank[0].state.forward);
     send(&mut bank, Kind::Mobile, &one, &mut memory, &WRITE_FIVE)?;
     send(&mut bank, Kind::Mobile, &one, &mut memory, &WRITE_FIVE)?;

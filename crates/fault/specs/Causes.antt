@@ -1,5 +1,5 @@
 -- Every refusal with its number and its layer.
-use Rattle.std.specs.Prelude.{ℕ}
+use Rattle.std.specs.Prelude.{ℕ, List, codes}
 use Rattle.fault.specs.declared.refusal.Layer.{Layer}
 use Rattle.fault.specs.declared.refusal.Layer.TheVariants.{Packet, Block, Board, Memory}
 use Rattle.fault.specs.declared.refusal.Refusal.{Refusal}
@@ -28,3 +28,10 @@ row NumberOutOfRange = (19, Board)
 row FieldOutOfRange = (20, Packet)
 row PlaceTooShort = (21, Packet)
 row CellOutOfRange = (22, Memory)
+
+-- the word for a layer, by its bytes
+abbrev pub layer_name : Layer → List ℕ
+layer_name Packet = codes "packet"
+layer_name Block = codes "block"
+layer_name Board = codes "board"
+layer_name Memory = codes "memory"

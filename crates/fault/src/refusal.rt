@@ -1,3 +1,5 @@
+use thiserror::Error;
+
 /// The layer that a refusal comes from.
 #[derive(Clone, Copy, PartialEq, Eq, Debug)]
 pub enum Layer {
@@ -7,51 +9,73 @@ pub enum Layer {
     Memory,
 }
 
-/// Why a packet, a block or a call is refused.
-#[derive(Clone, Copy, PartialEq, Eq, Debug)]
+/// Why a packet, a block or a call is refused, each with its number.
+#[derive(Clone, Copy, PartialEq, Eq, Debug, Error)]
 pub enum Refusal {
     /// A packet has fewer than 3 or more than 6 bytes.
-    PacketLength,
+    #[error("packet length not 3 to 6")]
+    PacketLength = 1,
     /// The XOR of a packet's bytes is not zero.
-    ErrorByte,
+    #[error("wrong error byte")]
+    ErrorByte = 2,
     /// A packet begins with one of E8 to FC.
-    ReservedAddress,
+    #[error("reserved address")]
+    ReservedAddress = 3,
     /// A packet begins with FD or FE.
-    AdvancedFormat,
+    #[error("advanced packet format")]
+    AdvancedFormat = 4,
     /// A packet begins with FF and is not FF 00 FF.
-    IdleForm,
+    #[error("idle in another form")]
+    IdleForm = 5,
     /// A long address stands without an instruction.
-    NoInstruction,
+    #[error("long address without instruction")]
+    NoInstruction = 6,
     /// No instruction has this form, or a later byte of it has a reserved value.
-    ReservedInstruction,
+    #[error("reserved instruction or value")]
+    ReservedInstruction = 7,
     /// An instruction has too few or too many bytes.
-    InstructionLength,
+    #[error("instruction too short or too long")]
+    InstructionLength = 8,
     /// The second byte of an accessory packet is no accessory head.
-    AccessoryHead,
+    #[error("no accessory head")]
+    AccessoryHead = 9,
     /// A block is empty or has more than 512 bytes.
-    BlockLength,
+    #[error("block length not 1 to 512")]
+    BlockLength = 10,
     /// A record's kind is none that there is.
-    UnknownKind,
+    #[error("unknown record kind")]
+    UnknownKind = 11,
     /// The block ends before the record's packet does.
-    BodyCutOff,
+    #[error("record cut off")]
+    BodyCutOff = 12,
     /// A byte that is not zero follows fill.
-    NonzeroFill,
+    #[error("byte after fill not zero")]
+    NonzeroFill = 13,
     /// A decoder cannot have this address.
-    FittedAddress,
+    #[error("address cannot be fitted")]
+    FittedAddress = 14,
     /// The board or the kind's bank holds no more decoders.
-    BankFull,
+    #[error("bank or board full")]
+    BankFull = 15,
     /// The memory has too few cells left for a decoder.
-    TooFewCells,
+    #[error("too few cells left")]
+    TooFewCells = 16,
     /// A lent bank or memory is shorter than what was fitted.
-    LentTooShort,
+    #[error("bank or memory shorter than fitted")]
+    LentTooShort = 17,
     /// The board has no such decoder.
-    NoSuchDecoder,
+    #[error("no such decoder")]
+    NoSuchDecoder = 18,
     /// A number is out of the range that it names things from.
-    NumberOutOfRange,
+    #[error("number out of range")]
+    NumberOutOfRange = 19,
     /// A field cannot be written, or the instruction is not for its target.
-    FieldOutOfRange,
+    #[error("field out of range")]
+    FieldOutOfRange = 20,
     /// The place is too short for what is to be put there.
-    PlaceTooShort,
+    #[error("place too short")]
+    PlaceTooShort = 21,
     /// A cell, or a strip of cells, lies beyond the memory's count.
-    CellOutOfRange,
+    #[error("cell out of range")]
+    CellOutOfRange = 22,
 }

@@ -42,21 +42,13 @@ one_high : (b : ℕ) (i : Instruction) → 0x40 ≤ b → mobile (b ∷ []) ≡ 
 unfolding mobile
 one_high b i l e = grind (arith, nat_tests)
 
-none_read : (i : Instruction) → mobile [] ≡ Ok i → ⊥
-unfolding mobile
-none_read i e = grind arith
-
-four_read : (b c d f : ℕ) (bs : List ℕ) (i : Instruction) → mobile (b ∷ c ∷ d ∷ f ∷ bs) ≡ Ok i → ⊥
-unfolding mobile
-four_read b c d f bs i e = grind (arith, nat_tests)
-
 pub mobile_forth : (bs : List ℕ) → AllByRecursion (λ b. b < 256) bs → (i : Instruction) → mobile bs ≡ Ok i → mobile_body (form_of i) ≡ Ok bs
-mobile_forth [] h i e = absurd (none_read i e)
+unfolding mobile
 mobile_forth (b ∷ []) h i e = ⊎_elim (λ l. one_low b i l e) (λ l. one_high b i l e) (cases_lt b 0x40)
 mobile_forth (b ∷ c ∷ []) h i e = ⊎_elim (λ l. two_low b c h i l e) (λ l. two_high b c h i l e) (cases_lt b 0x40)
 mobile_forth (b ∷ c ∷ d ∷ []) h i e =
     ⊎_elim (λ q. long_state b c d h i q e) (λ n. cv_mobile (form_of i) _ (access_forth _ h i (mobile_access b c d i n e))) (cases_eq b 0xc0)
-mobile_forth (b ∷ c ∷ d ∷ f ∷ bs) h i e = absurd (four_read b c d f bs i e)
+mobile_forth _ h i e = grind (arith, nat_tests)
 
 cv_basic : (f : Form) (bs : List ℕ) → cv_body f ≡ Ok bs → (basic_body f ≡ Ok bs) × (output_bits f ≡ 0)
 cv_basic f bs e = grind (arith, nat_tests)

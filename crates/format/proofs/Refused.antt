@@ -23,6 +23,7 @@ told_refused t (Err e) = refl
 abbrev Mobile : ℕ → List ℕ → Type 0
 Mobile b bs = refusal_of (by_first b bs) ≡ first_cause (mobile_causes (b ∷ bs))
 
+-- tried: fewer ranges of the first byte; `grind` stops at its limit of case splits
 control : (b : ℕ) (bs : List ℕ) → b < 0x10 → Mobile b bs
 control b (c ∷ d ∷ f ∷ bs) l = grind (arith, nat_tests)
 control b _ l = grind (arith, nat_tests)
@@ -45,13 +46,9 @@ features : (b : ℕ) (bs : List ℕ) → 0xd8 ≤ b → b < 0xe0 → Mobile b bs
 features b (c ∷ d ∷ f ∷ bs) l m = grind (arith, nat_tests)
 features b _ l m = grind (arith, nat_tests)
 
-long_forms : (b : ℕ) (bs : List ℕ) → 0xe0 ≤ b → b < 0xf0 → Mobile b bs
-long_forms b (c ∷ d ∷ f ∷ bs) l m = grind (arith, nat_tests)
-long_forms b _ l m = grind (arith, nat_tests)
-
-adjustments : (b : ℕ) (bs : List ℕ) → 0xf0 ≤ b → b < 0x100 → Mobile b bs
-adjustments b (c ∷ d ∷ f ∷ bs) l m = grind (arith, nat_tests)
-adjustments b _ l m = grind (arith, nat_tests)
+last_forms : (b : ℕ) (bs : List ℕ) → 0xe0 ≤ b → b < 0x100 → Mobile b bs
+last_forms b (c ∷ d ∷ f ∷ bs) l m = grind (arith, nat_tests)
+last_forms b _ l m = grind (arith, nat_tests)
 
 by_first_lem : (b : ℕ) (bs : List ℕ) → b < 256 → Mobile b bs
 by_first_lem b bs h =
@@ -60,9 +57,8 @@ by_first_lem b bs h =
     ⊎_elim (speed_forms b bs l) (λ l.
     ⊎_elim (group_forms b bs l) (λ l.
     ⊎_elim (state_form b bs l) (λ l.
-    ⊎_elim (features b bs l) (λ l.
-    ⊎_elim (long_forms b bs l) (λ l. adjustments b bs l h)
-    (cases_lt b 0xf0)) (cases_lt b 0xe0)) (cases_lt b 0xd8)) (cases_lt b 0xc0)) (cases_lt b 0x80)) (cases_lt b 0x40)) (cases_lt b 0x10)
+    ⊎_elim (features b bs l) (λ l. last_forms b bs l h)
+    (cases_lt b 0xe0)) (cases_lt b 0xd8)) (cases_lt b 0xc0)) (cases_lt b 0x80)) (cases_lt b 0x40)) (cases_lt b 0x10)
 
 mobile_refused : (b : ℕ) (bs : List ℕ) → b < 256 → refusal_of (mobile (b ∷ bs)) ≡ first_cause (mobile_causes (b ∷ bs))
 unfolding mobile
@@ -166,9 +162,8 @@ addressed_refused b d bs a =
     (cases_lt b 0xe8)) (cases_lt b 0xc0)) (cases_lt b 0x80)
 
 two_up : (xs : List ℕ) → 2 ≤ length xs → AllByRecursion (λ x. x < 256) xs → Addressed xs
-two_up [] l a = absurd (omega arith)
-two_up (b ∷ []) l a = absurd (omega arith)
 two_up (b ∷ d ∷ bs) l a = addressed_refused b d bs a
+two_up _ l a = absurd (omega arith)
 
 -- n bytes, whose XOR is x, with the answer r and the cause o of the bytes before the last
 outer :

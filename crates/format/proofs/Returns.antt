@@ -10,9 +10,8 @@ use Rattle.packet.specs.declared.target.Target.TheVariants.{Idle, Broadcast, Sho
 use Rattle.packet.specs.declared.instruction.Instruction.{Instruction}
 use Rattle.packet.specs.declared.instruction.Instruction.TheVariants.{NoOperation}
 use Rattle.packet.specs.declared.packet.Packet.{Packet}
-use Rattle.fault.specs.declared.refusal.Refusal.TheVariants.{AccessoryHead}
 use Rattle.packet.specs.Parity.{parity, sealed}
-use Rattle.format.specs.Reading.{Asked, Told, packet_of, told, mobile, basic, extended, basic_address, extended_address, is_extended_head, long, idle, accessory, addressed, front, packet_read}
+use Rattle.format.specs.Reading.{Asked, packet_of, told, mobile, basic, extended, basic_address, extended_address, is_extended_head, long, idle, accessory, addressed, front, packet_read}
 use Rattle.format.specs.Writing.{form_of, body_of, output_bits, head_of, encoded}
 use Rattle.format.proofs.Forths.{mobile_forth, basic_forth, extended_forth}
 use Rattle.packet.proofs.Parities.{parity_last}
@@ -92,7 +91,7 @@ accessory_forth b d bs p a l m e =
     ⊎_elim
     (λ s.
     ⊎_elim (λ x. extended_split b d bs p a l m x (grind (arith, nat_tests)))
-    (λ x. let q : ◌≡◌ {A = Told} (Err AccessoryHead) (Ok p) = grind (arith, nat_tests) in absurd (grind arith))
+    (λ x. grind (arith, nat_tests))
     (cases_Bool (is_extended_head d)))
     (λ n. basic_split b d bs p a l m n (grind (arith, nat_tests)))
     (cases_lt d 0x80)
@@ -105,32 +104,24 @@ idle-byte : (d : ℕ) (p : Packet) → idle (d ∷ []) ≡ Ok p → (d ≡ 0x00)
 idle-byte d p e = grind (arith, nat_tests)
 
 idle_split : (bs : List ℕ) (p : Packet) → idle bs ≡ Ok p → Split p (0xff ∷ bs)
-idle_split [] p e = absurd (grind arith)
 idle_split (d ∷ []) p e =
     let q = idle-byte d p e in
     rw (q.0, sym q.1) (record { head = 0xff ∷ 0x00 ∷ []; body = []; head_is = refl; body_is = refl; whole = refl })
-idle_split (d ∷ c ∷ bs) p e = absurd (grind arith)
+idle_split _ p e = grind arith
 
 idle_forth : (b : ℕ) (bs : List ℕ) (p : Packet) → b < 256 → 0xe8 ≤ b → addressed (b ∷ bs) ≡ Ok p → Split p (b ∷ bs)
 idle_forth b bs p a l e = let q = idle-told b bs p a l e in rw q.0 (idle_split bs p q.1)
 
-one_byte : (b : ℕ) (p : Packet) → 0x80 ≤ b → b < 0xe8 → addressed (b ∷ []) ≡ Ok p → ⊥
-unfolding addressed accessory long
-one_byte b p l m e = grind (arith, nat_tests)
-
-none_addressed : (p : Packet) → addressed [] ≡ Ok p → ⊥
-unfolding addressed
-none_addressed p e = grind arith
-
 addressed_forth : (xs : List ℕ) (p : Packet) → AllByRecursion (λ x. x < 256) xs → addressed xs ≡ Ok p → Split p xs
-addressed_forth [] p a e = absurd (none_addressed p e)
+unfolding addressed accessory long
+addressed_forth [] p a e = grind arith
 addressed_forth (b ∷ bs) p a e =
     ⊎_elim (λ l. short_forth b bs p a.1 l e)
     (λ l. ⊎_elim (λ m. two bs a.1 l m e) (λ m. idle_forth b bs p a.0 m e) (cases_lt b 0xe8))
     (cases_lt b 0x80)
   where
     two : (cs : List ℕ) → AllByRecursion (λ x. x < 256) cs → 0x80 ≤ b → b < 0xe8 → addressed (b ∷ cs) ≡ Ok p → Split p (b ∷ cs)
-    two [] h l m f = absurd (one_byte b p l m f)
+    two [] h l m f = grind (arith, nat_tests)
     two (d ∷ cs) h l m f =
         ⊎_elim (λ n. accessory_forth b d cs p h l n f) (λ n. long_forth b d cs p h n m f) (cases_lt b 0xc0)
 

@@ -1,5 +1,5 @@
 -- Whole packets: what is written reads as itself. Assumes nothing.
-use Rattle.std.proofs.Common.{◌≡◌, ℕ, ◌+◌, ◌-◌, ◌*◌, ◌/◌, ◌<◌, ◌≤◌, ltb, List, [], ◌∷◌, ◌++◌, length, Ok, Err, sym, refl, ap, ◌∙◌, arith}
+use Rattle.std.proofs.Common.{◌≡◌, ℕ, ◌+◌, ◌-◌, ◌*◌, ◌/◌, ◌<◌, ◌≤◌, ltb, List, [], ◌∷◌, ◌++◌, length, Ok, Err, sym, refl, ap, ◌∙◌, subst, arith}
 use Rattle.std.proofs.lemmas.List.{take_at, length-append}
 use Rattle.std.proofs.lemmas.Bool.{cond_both}
 use Rattle.std.proofs.lemmas.Bool.Decides.{nat_tests}
@@ -27,8 +27,7 @@ record Parts (x y : Coded) (bs : List ℕ) : Type 0 where
 
 parts : (x y : Coded) (bs : List ℕ) → joined x y ≡ Ok bs → Parts x y bs
 parts (Ok h) (Ok b) bs e = record { head = h; body = b; head_is = refl; body_is = refl; whole = cc }
-parts (Ok h) (Err d) bs e = absurd (grind arith)
-parts (Err d) y bs e = absurd (grind arith)
+parts _ _ bs e = grind arith
 
 idle_only : (i : Instruction) (b : List ℕ) → idle_body (form_of i) ≡ Ok b → (i ≡ NoOperation) × (b ≡ [])
 idle_only NoOperation b e = (refl, cc)
@@ -100,8 +99,7 @@ form_sized (Aspect number) = tt
 form_sized _ = (omega arith, omega arith)
 
 sized_ok : (x : Coded) (bs : List ℕ) → Sized x → x ≡ Ok bs → (1 ≤ length bs) × (length bs ≤ 3)
-sized_ok (Ok xs) bs s e = let p : xs ≡ bs = cc in rw (sym p) s
-sized_ok (Err d) bs s e = absurd (grind arith)
+sized_ok x bs s e = subst Sized e s
 
 -- the whole without its error byte has two to five bytes
 mobile-length : (f : Form) (b : List ℕ) → SizedForm f → mobile_body f ≡ Ok b → (1 ≤ length b) × (length b ≤ 3)

@@ -11,7 +11,7 @@ use std::io::Read;
 pub fn read_up_to(rt: &HostRuntime, place: &mut [u8]) -> io::Result<usize>
     ensures { IfOk result (λ n. n ≤ length place.new) }
 {
-    // `io::copy` promises no bound on its count where nothing is known of what the reader holds.
+    // No `read_to_end`: the place is lent, there is no heap, and an input may have no end.
     let mut count = 0;
     let mut input = rt.stdin();
     for _ in 0..place.len() {

@@ -2,8 +2,8 @@
 use Rattle.std.proofs.Common.{◌≡◌, ℕ, zero, suc, ◌+◌, ◌-◌, ◌*◌, ◌/◌, ◌%◌, ◌<◌, ◌≤◌, List, [], ◌∷◌, length, get_or, set, slice_get, Some, Ok, refl, sym, arith, rules}
 use Rattle.std.proofs.Math.Nat.{div-add-mod, mod-lt, mul-suc, mul-div-le, mul-le-mul_left}
 use Rattle.std.proofs.lemmas.Nat.{mul-add-lt, div-add-mod'}
-use Rattle.std.proofs.lemmas.List.{get_or_append_left, get_or-append-add, set-append_left, set-append_right}
-use Rattle.std.proofs.lemmas.Option.{slice_get_within}
+use Rattle.std.proofs.lemmas.List.{get_or_append_left, get_or-append-add, set-append_left, set-append_right, set_past}
+use Rattle.std.proofs.lemmas.Option.{same_Some, slice_get_within}
 use Rattle.memory.specs.Bounds.{length_places}
 use Rattle.memory.specs.Cells.{cell_read, cell_write}
 use Rattle.memory.specs.Places.{PlaceLaws}
@@ -14,9 +14,8 @@ module _ {P : Type 0} {n : ℕ} {cells : List P → List ℕ} (laws : PlaceLaws 
   read_at [] q r k p e h at = cc
   read_at (x ∷ xs) zero r k p e h at =
       let here : k ≡ r = omega arith in
-      let same : p ≡ x = cc in
       let within : r < length (cells (x ∷ [])) = omega (arith, laws.whole x) in
-      rw (here, laws.joined x xs, same) (get_or_append_left (cells (x ∷ [])) (cells xs) 0 r within)
+      rw (here, laws.joined x xs, ← same_Some x p e) (get_or_append_left (cells (x ∷ [])) (cells xs) 0 r within)
   read_at (x ∷ xs) (suc q) r k p e h at =
       let there : k ≡ length (cells (x ∷ [])) + (n * q + r) = omega (arith, laws.whole x, mul-suc n q) in
       rw (there, laws.joined x xs, get_or-append-add (cells (x ∷ [])) (cells xs) (n * q + r) 0) (read_at xs q r (n * q + r) p e h refl)
@@ -25,9 +24,8 @@ module _ {P : Type 0} {n : ℕ} {cells : List P → List ℕ} (laws : PlaceLaws 
   set_at [] q r k b p p' e h at c = cc
   set_at (x ∷ xs) zero r k b p p' e h at c =
       let here : k ≡ r = omega arith in
-      let same : p ≡ x = cc in
       let within : r < length (cells (x ∷ [])) = omega (arith, laws.whole x) in
-      rw (here, laws.joined p' xs, laws.joined x xs, c, same) (sym (set-append_left (cells (x ∷ [])) (cells xs) r b within))
+      rw (here, laws.joined p' xs, laws.joined x xs, c, ← same_Some x p e) (sym (set-append_left (cells (x ∷ [])) (cells xs) r b within))
   set_at (x ∷ xs) (suc q) r k b p p' e h at c =
       let past : n ≤ k = omega (arith, mul-suc n q) in
       let there : k - n ≡ n * q + r = omega (arith, mul-suc n q) in
@@ -52,3 +50,6 @@ module _ {P : Type 0} {n : ℕ} {cells : List P → List ℕ} (laws : PlaceLaws 
 
       pub places_set : (p' : P) (b : ℕ) → cells (p' ∷ []) ≡ set (cells (p ∷ [])) (k % n) b → cells (set ps (k / n) p') ≡ set (cells ps) k b
       places_set p' b c = set_at ps (k / n) (k % n) k b p p' e (mod-lt k laws.some) (sym (div-add-mod k n)) c
+
+-- what a read and a write of a place's cell ask for
+pub ruleset places = (places_past, places_read, places_write, places_set, slice_get_within, set_past)

@@ -1,4 +1,5 @@
--- How many cells bytes, words and a strip have, and that every cell is a byte: the memories' laws. They stand here since a ghost member may cite no file of `proofs/`.
+-- How many cells bytes, words and a strip have, and that every cell is a byte: the memories' laws. They stand here
+-- since a ghost member may cite no file of `proofs/`.
 use Rattle.std.specs.Prelude.{◌≡◌, ℕ, zero, suc, ◌-◌, ◌*◌, ◌%◌, ◌^◌, ◌<◌, min, List, [], ◌∷◌, length, slice_index, refl}
 use Rattle.std.proofs.Common.{ap, arith, length-append, length-take, length-drop}
 use Rattle.std.proofs.Math.ListN.{get_or-map}

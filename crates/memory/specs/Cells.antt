@@ -2,10 +2,11 @@
 use Rattle.std.specs.Prelude.{ℕ, ◌+◌, ◌/◌, ◌%◌, ◌<◌, cond, List, [], ◌∷◌, ◌++◌, map, length, take, drop, Ok, Err, Result, nat_le, nat_lt, slice_index, slice_set}
 use Rattle.fault.specs.declared.fault.Fault.{Fault}
 use Rattle.fault.specs.declared.refusal.Refusal.TheVariants.{CellOutOfRange}
+use Rattle.fault.specs.Places.{fault_at}
 
 -- the refusal of a cell
 abbrev pub out_of_range : ℕ → Fault
-out_of_range cell = record { refusal = CellOutOfRange; offset = cell }
+out_of_range cell = fault_at CellOutOfRange cell
 
 -- the byte in a cell, or its refusal
 abbrev pub cell_read : List ℕ → ℕ → Result ℕ Fault

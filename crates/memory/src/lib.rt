@@ -1,10 +1,10 @@
-//! Memories: a fixed count of byte cells that are read and written one by one, over bytes, over words or over a part of another memory.
+//! Memories: a fixed count of byte cells that are read and written one by one, over bytes, over words or over a part
+//! of another memory.
 
 #![tactic(auto)]
 
 pub mod bytes;
 pub mod memory;
-mod refusing;
 pub mod slices;
 pub mod strip;
 pub mod words;

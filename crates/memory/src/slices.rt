@@ -4,8 +4,7 @@ ghost use Rattle.memory.specs.Places.{PlaceLaws};
 ghost use Rattle.memory.specs.Bounds.{places_small};
 
 use crate::memory::Memory;
-use crate::refusing::out_of_range;
-use fault::Fault;
+use fault::{Fault, Refusal};
 
 /// A number that takes up `N` cells of a memory.
 pub trait Place<const N: usize>: Copy {
@@ -38,7 +37,10 @@ impl<'a, P: Place<N>, const N: usize> SliceMemory<'a, P, N> {
         ensures ok { IfOk result (λ p. slice_get self.now.places.now (cell / N) ≡ Some p) }
         ensures err { IfErr result (λ e. (length self.now.places.now ≤ cell / N) × (e ≡ out_of_range cell)) }
     {
-        self.places.get(cell / N).copied().ok_or(out_of_range(cell))
+        self.places
+            .get(cell / N)
+            .copied()
+            .ok_or(Refusal::CellOutOfRange.at(cell))
     }
 }
 
@@ -51,10 +53,12 @@ impl<'a, P: Place<N>, const N: usize> Memory for SliceMemory<'a, P, N> {
 
     ghost small = { λ m. places_small P.Place.laws m.places.now m.small };
 
+    #[tactic(auto, using(crate::specs::Bounds::length_places))]
     fn count(&self) -> usize {
         N * self.places.len()
     }
 
+    #[tactic(auto, using(crate::proofs::PlaceCells::places))]
     fn read(&mut self, cell: usize) -> Result<u8, Fault>
         ensures answer { result ≡ cell_read (P.Place.cells self.old.places.now) cell }
         ensures same { P.Place.cells self.new.places.now ≡ P.Place.cells self.old.places.now }
@@ -65,6 +69,7 @@ impl<'a, P: Place<N>, const N: usize> Memory for SliceMemory<'a, P, N> {
         Ok(bytes[cell % N])
     }
 
+    #[tactic(auto, using(crate::proofs::PlaceCells::places))]
     fn write(&mut self, cell: usize, byte: u8) -> Result<(), Fault>
         ensures answer { result ≡ cell_write (P.Place.cells self.old.places.now) cell }
         ensures after { P.Place.cells self.new.places.now ≡ slice_set (P.Place.cells self.old.places.now) cell byte }

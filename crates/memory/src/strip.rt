@@ -1,11 +1,10 @@
-ghost use Rattle.std.specs.Prelude.{◌≡◌, ◌^◌, ◌<◌, length, slice_set};
+ghost use Rattle.std.specs.Prelude.{◌≡◌, slice_set};
 ghost use Rattle.memory.specs.Cells.{cell_read, cell_write, strip_cells, strip_check};
 ghost use Rattle.memory.specs.Bounds.{strip_fits, strip_small};
 ghost use Rattle.memory.specs.Strips.{cells_below, cells_within, below_written, outsides, rejoined};
 
 use crate::memory::Memory;
-use crate::refusing::out_of_range;
-use fault::Fault;
+use fault::{Fault, Refusal};
 
 /// A part of another memory as a memory of its own: its cell `k` is the cell `first + k` below.
 ///
@@ -26,7 +25,7 @@ impl<M: Memory> Strip<M> {
         if first <= total && count <= total - first {
             Ok(())
         } else {
-            Err(out_of_range(first))
+            Err(Refusal::CellOutOfRange.at(first))
         }
     }
 
@@ -78,7 +77,7 @@ impl<M: Memory> Memory for Strip<M> {
         if cell < self.count() {
             self.below.read(self.first + cell)
         } else {
-            Err(out_of_range(cell))
+            Err(Refusal::CellOutOfRange.at(cell))
         }
     }
 
@@ -91,7 +90,7 @@ impl<M: Memory> Memory for Strip<M> {
         ensures count { self.new.count ≡ self.old.count }
     {
         if cell >= self.count() {
-            return Err(out_of_range(cell));
+            return Err(Refusal::CellOutOfRange.at(cell));
         }
         self.below.write(self.first + cell, byte)
     }

@@ -1,2 +1,3 @@
 pub mod Parity
 pub mod Wires
+pub mod Groups

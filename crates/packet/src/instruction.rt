@@ -17,6 +17,8 @@ pub enum FunctionGroup {
 }
 
 /// What a packet asks.
+// Zero for none or for all stays a number: each variant is one form of the format, and is written back to its own
+// bytes.
 #[derive(Clone, Copy, PartialEq, Eq, Debug)]
 pub enum Instruction {
     /// Nothing: all that an idle packet holds.

@@ -4,6 +4,7 @@
 
 pub mod cv;
 mod error_byte;
+mod groups;
 pub mod instruction;
 pub mod packet;
 pub mod target;

@@ -1,3 +1,4 @@
+// The broadcasts are no variants of their own: an address is written as it was read, the highest too.
 /// Whom a packet is for. The highest basic and the highest extended address are broadcasts to their kind.
 #[derive(Clone, Copy, PartialEq, Eq, Debug)]
 pub enum Target {

@@ -1,9 +1,11 @@
-ghost use Rattle.std.specs.Prelude.{◌≡◌};
+ghost use Rattle.std.specs.Prelude.{◌≡◌, [], ◌∷◌};
 ghost use Rattle.packet.specs.Wires.{number_in, if_number, number_of, wire_of, wire_at, wire_bytes};
 
 use crate::cv::{CvNumber, WireAddress};
 
-// `new` and `get` as std's `NonZeroU16` has them: a `TryFrom<u16>` would need an error that says no more than `None`.
+// `new` and `get` are those of std's `NonZeroU16`. Beside them `TryFrom<u16>` and `From<CvNumber>` would say the same
+// once more,
+// and need an error that says no more than `None`.
 impl CvNumber {
     /// The variable of that number, if there is one.
     pub fn new(number: u16) -> Option<CvNumber>
@@ -56,9 +58,9 @@ impl WireAddress {
     }
 
     /// The upper two bits and the lower eight.
-    pub fn to_bytes(self) -> (u8, u8)
-        ensures { result ≡ wire_bytes self }
+    pub fn to_bytes(self) -> [u8; 2]
+        ensures { result ≡ (wire_bytes self).0 ∷ (wire_bytes self).1 ∷ [] }
     {
-        self.address.to_be_bytes().into()
+        self.address.to_be_bytes()
     }
 }

@@ -4,7 +4,8 @@ ghost use Rattle.format.specs.Reading.{Asked, alone as alone_of, with_one as wit
 use fault::Refusal;
 use packet::Instruction;
 
-// Three functions, as the format has three definitions: one over `[u8; N]` would hand `make` an array, and its clause would
+// Three functions, as the format has three definitions: one over `[u8; N]` would hand `make` an array, and its clause
+// would
 // have to say how a function of a list is one of a byte, or of two.
 
 /// An instruction of one byte.
@@ -17,7 +18,8 @@ pub(crate) fn alone(rest: &[u8], instruction: Instruction) -> Result<Instruction
     }
 }
 
-/// An instruction of two bytes, which `make` makes of the second: where that is `f`, it is read as the format says by `f`.
+/// An instruction of two bytes, which `make` makes of the second: where that is `f`, it is read as the format says by
+/// `f`.
 pub(crate) fn with_one<F: FnOnce(u8) -> Result<Instruction, Refusal>>(
     rest: &[u8],
     make: F,

@@ -1,6 +1,6 @@
 use crate::line::Line;
 use crate::trouble::Trouble;
-use script::Fit;
+use script::{DecoderName, Fit};
 use std::alloc::Global;
 
 /// A decoder that a fittings file asks for, and in which line, from 1.
@@ -10,15 +10,21 @@ pub struct Wanted {
     pub fit: Fit,
 }
 
+/// A decoder that was fitted: its name, and as what it was fitted.
+#[derive(Clone, Copy)]
+pub struct Fitted {
+    pub name: DecoderName,
+    pub fit: Fit,
+}
+
 /// Reads the text of a fittings file: a script of `fit` lines alone.
 pub(crate) fn read_fittings(heap: Global, text: &str) -> Result<Vec<Wanted>, Trouble> {
-    let mut fittings = Vec::new(heap);
-    for (line, text) in (1..).zip(text.lines()) {
-        match Line::read(heap, line, text)? {
-            Some(Line::Fit(fit)) => fittings.push(Wanted { line, fit })?,
-            Some(_other) => return Err(Trouble::BadLine(line)),
-            None => {}
-        }
-    }
-    Ok(fittings)
+    (1..)
+        .zip(text.lines())
+        .filter_map(|(line, text)| match Line::read(heap, line, text).transpose()? {
+            Ok(Line::Fit(fit)) => Some(Ok(Wanted { line, fit })),
+            Ok(_other) => Some(Err(Trouble::BadLine(line))),
+            Err(trouble) => Some(Err(trouble)),
+        })
+        .try_collect(heap)
 }

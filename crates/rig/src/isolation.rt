@@ -2,7 +2,7 @@ ghost use Rattle.std.specs.Prelude.{◌≡◌, not, ◌&&◌};
 
 use crate::capture::Capture;
 use crate::events::own_events;
-use crate::fittings::Wanted;
+use crate::fittings::Fitted;
 use crate::names::Named;
 use crate::play::Played;
 use crate::trouble::Trouble;
@@ -58,21 +58,21 @@ fn has_same_events(
     Ok(first.as_slice() == second.as_slice())
 }
 
-/// Prints for each decoder whether its events and its end were alike after two captures. Isolation that is broken is a failure.
+/// Prints for each decoder whether its events and its end were alike after two captures. Isolation that is broken is
+/// a failure.
 pub(crate) fn compare_ends(
     rt: &HostRuntime,
-    fittings: &[Wanted],
     capture: &Capture,
     other_capture: &Capture,
     one: &Played,
     other: &Played,
 ) -> Result<ExitCode, Trouble> {
     let mut status = ExitCode::SUCCESS;
-    let ends = one.portraits.iter().zip(other.portraits.iter());
-    for (wanted, (first, second)) in fittings.iter().zip(ends) {
+    for (first, second) in one.portraits.iter().zip(other.portraits.iter()) {
+        let Fitted { name, fit } = first.fitted;
         let verdict = Verdict {
-            name: first.name,
-            same_events: has_same_events(rt.alloc(), wanted.fit, capture, other_capture)?,
+            name,
+            same_events: has_same_events(rt.alloc(), fit, capture, other_capture)?,
             same_end: first.difference(second).is_none(),
         };
         println!(rt; "{verdict}")?;

@@ -43,6 +43,7 @@ fn up_to(most: usize, word: &str) -> Option<usize>
     decimal(word).filter(|number| *number <= most)
 }
 
+// No `FromStr` of `Kind`: this is its one reader, and an error would say no more than `None`.
 fn name(kind: &str, number: &str) -> Option<DecoderName> {
     let kind = match kind {
         "mobile" => Kind::Mobile,

@@ -3,7 +3,7 @@ use crate::line::Lent;
 use crate::names::Named;
 use crate::states::InWords;
 use fault::Fault;
-use script::{DecoderName, DecoderState, Taken};
+use script::{Answer, DecoderName, Request, Taken};
 use std::fmt;
 use thiserror::Error;
 use words::switched;
@@ -15,12 +15,8 @@ pub enum Outcome {
     Lent(Lent),
     Fitted(DecoderName),
     Started,
-    Taken(Taken),
-    Set,
-    State(DecoderState),
-    Variable { number: u16, value: u8 },
-    Function { number: u16, on: bool },
-    BinaryState { number: u16, on: bool },
+    /// A call of the running board, and what it was asked, if it was asked of one decoder.
+    Answered(Option<Request>, Answer),
 }
 
 /// Why a line did nothing. It prints as the line's answer, too.
@@ -62,6 +58,29 @@ fn taken<W: fmt::Write>(taken: Taken, f: &mut fmt::Formatter<W>) -> fmt::Result 
     Ok(())
 }
 
+/// The number that was asked for, where one was.
+fn asked<W: fmt::Write>(request: Request, f: &mut fmt::Formatter<W>) -> fmt::Result {
+    match request {
+        Request::Set { .. } | Request::State => Ok(()),
+        Request::Variable(number) => write!(f, "variable {number} = "),
+        Request::Function(number) => write!(f, "function {number} "),
+        Request::BinaryState(number) => write!(f, "binary state {number} "),
+    }
+}
+
+fn answered<W: fmt::Write>(answer: Answer, f: &mut fmt::Formatter<W>) -> fmt::Result {
+    match answer {
+        Answer::Taken(packets) => taken(packets, f),
+        Answer::Set => write!(f, "set"),
+        Answer::State(state) => {
+            let words = InWords(state);
+            write!(f, "{words}")
+        }
+        Answer::Variable(value) => write!(f, "{value}"),
+        Answer::Function(on) | Answer::BinaryState(on) => f.write_str(switched(on)),
+    }
+}
+
 impl fmt::Display for Outcome {
     fn fmt<W: fmt::Write>(&self, f: &mut fmt::Formatter<W>) -> fmt::Result {
         match *self {
@@ -72,16 +91,11 @@ impl fmt::Display for Outcome {
                 write!(f, "fitted {name}")
             }
             Outcome::Started => write!(f, "started"),
-            Outcome::Taken(packets) => taken(packets, f),
-            Outcome::Set => write!(f, "set"),
-            Outcome::State(state) => {
-                let words = InWords(state);
-                write!(f, "{words}")
-            }
-            Outcome::Variable { number, value } => write!(f, "variable {number} = {value}"),
-            Outcome::Function { number, on } => { write!(f, "function {number} {}", switched(on)) }
-            Outcome::BinaryState { number, on } => {
-                write!(f, "binary state {number} {}", switched(on))
+            Outcome::Answered(request, answer) => {
+                if let Some(request) = request {
+                    asked(request, f)?;
+                }
+                answered(answer, f)
             }
         }
     }

@@ -5,8 +5,7 @@ use crate::trouble::Trouble;
 use board::{Fitting, Running};
 use memory::{ByteMemory, Memory};
 use roster::BanksMut;
-use script::{DecoderName, DecoderState, Fit, Request};
-use state::ExtendedState;
+use script::{Call, DecoderName};
 use std::mem;
 use std::process::ExitCode;
 
@@ -49,38 +48,6 @@ impl Phase {
     }
 }
 
-fn answer<M: Memory>(
-    board: &Running,
-    banks: &mut BanksMut<'_>,
-    memory: &mut M,
-    name: DecoderName,
-    request: Request,
-) -> Result<Outcome, NotPerformed> {
-    match request {
-        Request::Set { variable, value } => {
-            board.set(banks, memory, name, variable, value)?;
-            Ok(Outcome::Set)
-        }
-        Request::State => {
-            let mut place = DecoderState::Extended(ExtendedState::new());
-            board.state(banks.shared(), memory, name, &mut place)?;
-            Ok(Outcome::State(place))
-        }
-        Request::Variable(number) => {
-            let value = board.variable(banks.shared(), memory, name, number)?;
-            Ok(Outcome::Variable { number, value })
-        }
-        Request::Function(number) => {
-            let on = board.function(banks.shared(), memory, name, number)?;
-            Ok(Outcome::Function { number, on })
-        }
-        Request::BinaryState(number) => {
-            let on = board.binary_state(banks.shared(), memory, name, number)?;
-            Ok(Outcome::BinaryState { number, on })
-        }
-    }
-}
-
 /// Performs a line on what is lent.
 fn perform_lent<M: Memory>(
     phase: &mut Phase,
@@ -106,12 +73,13 @@ fn perform_lent<M: Memory>(
         }
         Line::Take(block) => {
             let board = phase.running()?;
-            let taken = board.take(banks, memory, block.as_slice())?;
-            Ok(Outcome::Taken(taken))
+            let answer = board.perform(banks, memory, &Call::Take(block.as_slice()))?;
+            Ok(Outcome::Answered(None, answer))
         }
         Line::Ask(name, request) => {
             let board = phase.running()?;
-            answer(board, banks, memory, name, request)
+            let answer = board.perform(banks, memory, &Call::Ask(name, request))?;
+            Ok(Outcome::Answered(Some(request), answer))
         }
     }
 }

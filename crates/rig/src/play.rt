@@ -1,6 +1,6 @@
 use crate::banks::Records;
 use crate::capture::Capture;
-use crate::fittings::Wanted;
+use crate::fittings::{Fitted, Wanted};
 use crate::portrait::Portrait;
 use crate::progress::Progress;
 use crate::tally::Tally;
@@ -19,26 +19,33 @@ pub struct Played {
     pub tally: Tally,
 }
 
-/// Fits all that is wanted, and answers the names in the order of fitting.
+/// Fits all that is wanted, in its order.
 fn fit_all<M: Memory>(
     heap: Global,
     board: &mut Fitting,
     banks: &mut BanksMut<'_>,
     memory: &mut M,
     fittings: &[Wanted],
-) -> Result<Vec<DecoderName>, Trouble> {
-    let mut names = Vec::new(heap);
-    for Wanted { line, fit } in fittings.iter().copied() {
-        let number = board
-            .fit(banks, memory, fit)
-            .map_err(|fault| Trouble::Unfitted { line, fault })?;
-        names.push(DecoderName {
-            kind: fit.kind(),
-            number,
-        })?;
-    }
-    Ok(names)
+) -> Result<Vec<Fitted>, Trouble> {
+    fittings
+        .iter()
+        .map(|wanted| {
+            let Wanted { line, fit } = *wanted;
+            let number = board
+                .fit(banks, memory, fit)
+                .map_err(|fault| Trouble::Unfitted { line, fault })?;
+            let kind = fit.kind();
+            Ok(Fitted {
+                name: DecoderName { kind, number },
+                fit,
+            })
+        })
+        .try_collect(heap)
 }
+
+// Board, banks and memory stay apart here and in the portraits, as the board's calls take them: a struct of the three
+// would be taken
+// apart at each call.
 
 /// Takes every block of a capture.
 fn take_all<M: Memory>(
@@ -61,20 +68,18 @@ fn take_all<M: Memory>(
     tally
 }
 
-/// The portraits of all decoders, in the order of their names.
+/// The portraits of all decoders, in the order of fitting.
 fn portray_all<M: Memory>(
     heap: Global,
     board: &Running,
     banks: Banks<'_>,
     memory: &mut M,
-    names: &[DecoderName],
+    decoders: &[Fitted],
 ) -> Result<Vec<Portrait>, Trouble> {
-    let mut portraits = Vec::new(heap);
-    for name in names {
-        let portrait = Portrait::new(heap, board, banks, memory, *name)?;
-        portraits.push(portrait)?;
-    }
-    Ok(portraits)
+    decoders
+        .iter()
+        .map(|fitted| Portrait::new(heap, board, banks, memory, *fitted))
+        .try_collect(heap)
 }
 
 fn play_on<M: Memory>(
@@ -86,10 +91,10 @@ fn play_on<M: Memory>(
 ) -> Result<Played, Trouble> {
     let heap = rt.alloc();
     let mut board = Fitting::new();
-    let names = fit_all(heap, &mut board, banks, memory, fittings)?;
+    let decoders = fit_all(heap, &mut board, banks, memory, fittings)?;
     let board = board.start();
     let tally = take_all(rt, &board, banks, memory, capture);
-    let portraits = portray_all(heap, &board, banks.shared(), memory, names.as_slice())?;
+    let portraits = portray_all(heap, &board, banks.shared(), memory, decoders.as_slice())?;
     Ok(Played { portraits, tally })
 }
 

@@ -1,11 +1,12 @@
 use crate::digest::Digest;
+use crate::fittings::Fitted;
 use crate::trouble::Trouble;
 use bank::Kind;
 use board::Running;
 use memory::Memory;
 use roster::Banks;
 use script::{DecoderName, DecoderState};
-use state::{BasicState, ExtendedState, MobileState, Reply, Speed, WaitingWrite};
+use state::{ExtendedState, MobileState, Reply, Speed, WaitingWrite};
 use std::alloc::Global;
 use std::fmt;
 
@@ -53,17 +54,8 @@ struct Part {
 /// All that a decoder is, field by field.
 #[derive(Drop)]
 pub struct Portrait {
-    pub name: DecoderName,
+    pub fitted: Fitted,
     parts: Vec<Part>,
-}
-
-/// The number that a kind has in the digest.
-fn kind_byte(kind: Kind) -> u8 {
-    match kind {
-        Kind::Mobile => 0,
-        Kind::Basic => 1,
-        Kind::Extended => 2,
-    }
 }
 
 fn speed_bytes(speed: Speed) -> [u8; 2] {
@@ -133,21 +125,17 @@ impl Portrait {
         self.add_common(heap, &state.waiting, state.reply)
     }
 
-    fn add_basic(&mut self, heap: Global, state: &BasicState) -> Result<(), Trouble> {
-        self.add_switches(heap, Field::Outputs, &state.outputs)?;
-        self.add_common(heap, &state.waiting, state.reply)
-    }
-
-    fn add_extended(&mut self, heap: Global, state: &ExtendedState) -> Result<(), Trouble> {
-        self.add(heap, Field::Aspect, &[state.aspect])?;
-        self.add_common(heap, &state.waiting, state.reply)
-    }
-
     fn add_state(&mut self, heap: Global, state: &DecoderState) -> Result<(), Trouble> {
         match state {
             DecoderState::Mobile(state) => self.add_mobile(heap, state),
-            DecoderState::Basic(state) => self.add_basic(heap, state),
-            DecoderState::Extended(state) => self.add_extended(heap, state),
+            DecoderState::Basic(state) => {
+                self.add_switches(heap, Field::Outputs, &state.shown)?;
+                self.add_common(heap, &state.waiting, state.reply)
+            }
+            DecoderState::Extended(state) => {
+                self.add(heap, Field::Aspect, &[state.shown])?;
+                self.add_common(heap, &state.waiting, state.reply)
+            }
         }
     }
 
@@ -157,13 +145,14 @@ impl Portrait {
         board: &Running,
         banks: Banks<'_>,
         memory: &mut M,
-        name: DecoderName,
+        fitted: Fitted,
     ) -> Result<Portrait, Trouble> {
+        let name = fitted.name;
         let mut portrait = Portrait {
-            name,
+            fitted,
             parts: Vec::new(heap),
         };
-        portrait.add(heap, Field::Kind, &[kind_byte(name.kind)])?;
+        portrait.add(heap, Field::Kind, &[name.kind as u8])?;
         if let Some(address) = fitted_address(banks, name) {
             portrait.add(heap, Field::Address, &address.to_be_bytes())?;
         }
@@ -201,10 +190,7 @@ fn variables<M: Memory>(
     memory: &mut M,
     name: DecoderName,
 ) -> Result<Vec<u8>, Trouble> {
-    let mut values = Vec::new(heap);
-    for number in 1..=1024u16 {
-        let value = board.variable(banks, memory, name, number)?;
-        values.push(value)?;
-    }
-    Ok(values)
+    (1..=1024u16)
+        .map(|number| Ok(board.variable(banks, memory, name, number)?))
+        .try_collect(heap)
 }

@@ -1,22 +1,11 @@
 use script::DecoderState;
-use state::{
-    BasicState, BinaryStates, ExtendedState, MobileState, Reply, Scale, Speed, WaitingWrite,
-};
+use state::{BinaryStates, MobileState, Reply, Speed, WaitingWrite};
 use std::{array, fmt};
 use words::{Hex, NumbersOn, direction};
 
 /// The volatile part of a decoder as people read it.
 #[derive(Clone, Copy)]
 pub struct InWords(pub DecoderState);
-
-/// The numbers of the switches that are on.
-fn numbers_on(switches: &[bool]) -> NumbersOn<'_> {
-    NumbersOn {
-        first: 0,
-        switches,
-        none: "none",
-    }
-}
 
 /// The binary states by their numbers. There is none of number 0.
 fn all_states(states: &BinaryStates) -> [bool; 2048] {
@@ -60,22 +49,10 @@ fn mobile<W: fmt::Write>(state: &MobileState, f: &mut fmt::Formatter<W>) -> fmt:
     let direction = direction(state.forward);
     write!(f, "mobile {direction} ")?;
     speed(state.speed, f)?;
-    let functions = numbers_on(&state.functions.on);
+    let functions = NumbersOn::from_zero(&state.functions.on, "none");
     let states = all_states(&state.states);
-    let states = numbers_on(&states);
+    let states = NumbersOn::from_zero(&states, "none");
     write!(f, " functions {functions} states {states}")?;
-    common(&state.waiting, state.reply, f)
-}
-
-fn basic<W: fmt::Write>(state: &BasicState, f: &mut fmt::Formatter<W>) -> fmt::Result {
-    let outputs = numbers_on(&state.outputs);
-    write!(f, "basic outputs {outputs}")?;
-    common(&state.waiting, state.reply, f)
-}
-
-fn extended<W: fmt::Write>(state: &ExtendedState, f: &mut fmt::Formatter<W>) -> fmt::Result {
-    let aspect = state.aspect;
-    write!(f, "extended aspect {aspect}")?;
     common(&state.waiting, state.reply, f)
 }
 
@@ -83,8 +60,16 @@ impl fmt::Display for InWords {
     fn fmt<W: fmt::Write>(&self, f: &mut fmt::Formatter<W>) -> fmt::Result {
         match &self.0 {
             DecoderState::Mobile(state) => mobile(state, f),
-            DecoderState::Basic(state) => basic(state, f),
-            DecoderState::Extended(state) => extended(state, f),
+            DecoderState::Basic(state) => {
+                let outputs = NumbersOn::from_zero(&state.shown, "none");
+                write!(f, "basic outputs {outputs}")?;
+                common(&state.waiting, state.reply, f)
+            }
+            DecoderState::Extended(state) => {
+                let aspect = state.shown;
+                write!(f, "extended aspect {aspect}")?;
+                common(&state.waiting, state.reply, f)
+            }
         }
     }
 }

@@ -53,7 +53,7 @@ fn first_difference(one: &[Portrait], other: &[Portrait]) -> Option<Difference> 
     one.iter().zip(other).find_map(|(first, second)| {
         let field = first.difference(second)?;
         Some(Difference {
-            name: first.name,
+            name: first.fitted.name,
             field,
         })
     })
@@ -133,12 +133,5 @@ pub(crate) fn twin_with_other(
     let other = play_on_words(rt, fittings.as_slice(), &other_capture)?;
     show(rt, &one, &capture)?;
     show(rt, &other, &other_capture)?;
-    compare_ends(
-        rt,
-        fittings.as_slice(),
-        &capture,
-        &other_capture,
-        &one,
-        &other,
-    )
+    compare_ends(rt, &capture, &other_capture, &one, &other)
 }

@@ -1,24 +1,21 @@
 -- The decoders in their slots: by name, and after a change of some of them.
-use Rattle.std.proofs.Common.{◌≡◌, ℕ, ◌*◌, ◌<◌, ◌≤◌, true, false, ◌≢◌, List, map, length, get_or, set, Some, None, sym, refl, ap, ◌∙◌, subst, ⊎_elim, arith}
+use Rattle.std.proofs.Common.{◌≡◌, ℕ, ◌*◌, ◌<◌, ◌≤◌, true, false, ◌≢◌, List, map, length, get_or, set, Some, None, sym, refl, ap, ◌∙◌, subst, ⊎_elim, true≢false, arith}
 use Rattle.std.specs.List.{slice_get}
 use Rattle.std.proofs.lemmas.List.{same_lists, get_or_default, get_or-map, length-map, length-set, get_or-set_same, get_or-set_other}
 use Rattle.std.proofs.lemmas.List.FromFn.{length-map-range_with_len, get_or-map-range_with_len}
 use Rattle.std.proofs.lemmas.Option.{slice_get-get_or}
 use Rattle.std.proofs.lemmas.Bool.{cases_eq}
-use Rattle.decoder.specs.declared.records.Mobile as mobile-record
-use Rattle.decoder.specs.declared.records.Basic as basic-record
-use Rattle.decoder.specs.declared.records.Extended as extended-record
 use Rattle.decoder.specs.Alone.{Own}
 use Rattle.bank.specs.declared.kind.Kind.{Kind}
-use Rattle.bank.specs.declared.kind.Kind.TheVariants.{Mobile, Basic, Extended}
+use Rattle.bank.specs.declared.kind.Kind.TheVariants.{Mobile}
 use Rattle.bank.specs.Kinds.{same_kind, is_kind, count_below, SlotOf}
-use Rattle.bank.specs.Banks.{Turned}
+use Rattle.bank.specs.Banks.{own_at, Turned}
 use Rattle.script.specs.declared.name.DecoderName.{DecoderName}
-use Rattle.script.specs.Decoders.{Decoder, kind_of, decoder_of, changed}
-use Rattle.script.specs.Decoders.Decoder.{mobile, basic, extended}
-use Rattle.script.specs.Boards.{Lent, decoder_in, decoder_at, decoders, Rest}
+use Rattle.script.specs.Decoders.{Decoder, kind_of, RecordOf, decoder_as, decoder_of, changed}
+use Rattle.script.specs.Boards.{Lent, bank_of, spare_of, decoder_in, decoder_at, decoders, Rest}
 use Rattle.script.proofs.Names.{same_is, same_self}
 use Rattle.script.proofs.Slots.{slot_found, slot_missing, changed_at}
+use Rattle.roster.proofs.Alike.{kind_as}
 
 -- ---- kinds
 
@@ -35,9 +32,7 @@ pub not_two : (ks : List Kind) (j k : Kind) (s : ℕ) → same_kind j k ≡ fals
 not_two ks j k s apart h i =
     let e : j ≡ k = kind_is ks j s h ∙ sym (kind_is ks k s i) in
     let f : same_kind k k ≡ false = subst (λ j. same_kind j k ≡ false) e apart in
-    let g = same_self k in
-    let z : ◌≡◌ {A = ℕ} 0 1 = cc in
-    omega arith
+    true≢false (sym (same_self k) ∙ f)
 
 pub as_kind : (ks : List Kind) (l : Lent) (k : Kind) (s : ℕ) → is_kind ks k s ≡ true → decoder_at ks l s ≡ decoder_in k ks l s
 unfolding decoder_at
@@ -45,12 +40,7 @@ as_kind ks l k s h = ap (λ k. decoder_in k ks l s) (sym (kind_is ks k s h))
 
 kind_at : (ks : List Kind) (l : Lent) (s : ℕ) → kind_of (decoder_at ks l s) ≡ get_or ks s Mobile
 unfolding decoder_at
-kind_at ks l s = go (get_or ks s Mobile)
-  where
-    go : (k : Kind) → kind_of (decoder_in k ks l s) ≡ k
-    go Mobile = refl
-    go Basic = refl
-    go Extended = refl
+kind_at ks l s = kind_as (get_or ks s Mobile) _
 
 -- ---- all slots
 
@@ -92,6 +82,10 @@ module _ (ks : List Kind) (l : Lent) where
 
 -- ---- what was lent, and what came of it
 
+-- if the slot s is of the kind i, its record is as it was
+abbrev pub SameRecord : List Kind → Lent → Lent → ℕ → Kind → Type 0
+SameRecord ks l l' s i = is_kind ks i s ≡ true → (x : RecordOf i) → get_or (bank_of i l') (count_below (is_kind ks i) s) x ≡ get_or (bank_of i l) (count_below (is_kind ks i) s) x
+
 module _ (ks : List Kind) (l l' : Lent) where
   pub all_changed : (f : Decoder → Decoder) → ((s : ℕ) → s < length ks → decoder_at ks l' s ≡ f (decoder_at ks l s)) → decoders ks l' ≡ map f (decoders ks l)
   all_changed f each =
@@ -111,57 +105,25 @@ module _ (ks : List Kind) (l l' : Lent) where
       (λ ne. there t lt ne ∙ sym (get_or-set_other (decoders ks l) s t (g (decoder_at ks l s)) d ne ∙ get_or-decoders ks l t d lt))
       (cases_eq t s))
 
-  module _
-      {fm : ℕ → Own mobile-record.Mobile → Own mobile-record.Mobile} {fb : ℕ → Own basic-record.Basic → Own basic-record.Basic} {fe : ℕ → Own extended-record.Extended → Own extended-record.Extended}
-      (tm : Turned (is_kind ks Mobile) (length ks) fm l.mobiles l.cells l'.mobiles l'.cells)
-      (tb : Turned (is_kind ks Basic) (length ks) fb l.basics l.cells l'.basics l'.cells)
-      (te : Turned (is_kind ks Extended) (length ks) fe l.extendeds l.cells l'.extendeds l'.cells)
-    where
-      -- what was done to each kind, as one function of decoders
-      pub by_kinds : (f : ℕ → Decoder → Decoder) → ((s : ℕ) (o : Own mobile-record.Mobile) → mobile (fm s o) ≡ f s (mobile o)) → ((s : ℕ) (o : Own basic-record.Basic) → basic (fb s o) ≡ f s (basic o)) → ((s : ℕ) (o : Own extended-record.Extended) → extended (fe s o) ≡ f s (extended o)) → (s : ℕ) → s < length ks → decoder_at ks l' s ≡ f s (decoder_at ks l s)
-      unfolding decoder_at
-      by_kinds f em eb ee s low = go (get_or ks s Mobile) refl
-        where
-          go : (k : Kind) → get_or ks s Mobile ≡ k → decoder_in k ks l' s ≡ f s (decoder_in k ks l s)
-          go Mobile e = ap mobile (tm.here _ s low (is_kind_lem ks Mobile s e)) ∙ em s _
-          go Basic e = ap basic (tb.here _ s low (is_kind_lem ks Basic s e)) ∙ eb s _
-          go Extended e = ap extended (te.here _ s low (is_kind_lem ks Extended s e)) ∙ ee s _
+  -- what was done to each kind, as one function of decoders
+  module _ (f : (k : Kind) → Own (RecordOf k) → Own (RecordOf k)) (t : (k : Kind) → Turned (is_kind ks k) (length ks) (λ _. f k) (bank_of k l) l.cells (bank_of k l') l'.cells) where
+    pub by_kinds : (g : Decoder → Decoder) → ((k : Kind) (o : Own (RecordOf k)) → decoder_as k (f k o) ≡ g (decoder_as k o)) → decoders ks l' ≡ map g (decoders ks l)
+    unfolding decoder_at
+    by_kinds g e =
+        all_changed g
+        (λ s low. let k = get_or ks s Mobile in ap (decoder_as k) ((t k).here (spare_of k) s low (is_kind_lem ks k s refl)) ∙ e k (own_at (is_kind ks k) (spare_of k) (bank_of k l) l.cells s))
 
-      pub rest_of : length l'.cells ≡ length l.cells → ((k : ℕ) → 1024 * length ks ≤ k → get_or l'.cells k 0 ≡ get_or l.cells k 0) → l'.outside ≡ l.outside → Rest ks l l'
-      rest_of size cells outside = record {
-        mobile_size = tm.len;
-        basic_size = tb.len;
-        extended_size = te.len;
-        size = size;
-        mobiles = tm.beyond;
-        basics = tb.beyond;
-        extendeds = te.beyond;
-        cells = cells;
-        outside = outside;
-      }
+    pub rest_of : length l'.cells ≡ length l.cells → ((c : ℕ) → 1024 * length ks ≤ c → get_or l'.cells c 0 ≡ get_or l.cells c 0) → l'.outside ≡ l.outside → Rest ks l l'
+    rest_of size cells outside = record { sizes = λ k. (t k).len; size = size; records = λ k. (t k).beyond; cells = cells; outside = outside }
 
 pub rest_none : {ks : List Kind} {l : Lent} → Rest ks l l
-rest_none = record {
-  mobile_size = refl;
-  basic_size = refl;
-  extended_size = refl;
-  size = refl;
-  mobiles = λ x j h. refl;
-  basics = λ x j h. refl;
-  extendeds = λ x j h. refl;
-  cells = λ k h. refl;
-  outside = refl;
-}
+rest_none = record { sizes = λ k. refl; size = refl; records = λ k x j h. refl; cells = λ c h. refl; outside = refl }
 
 pub rest_then : {ks : List Kind} {l l' l'' : Lent} → Rest ks l l' → Rest ks l' l'' → Rest ks l l''
 rest_then r q = record {
-  mobile_size = q.mobile_size ∙ r.mobile_size;
-  basic_size = q.basic_size ∙ r.basic_size;
-  extended_size = q.extended_size ∙ r.extended_size;
+  sizes = λ k. q.sizes k ∙ r.sizes k;
   size = q.size ∙ r.size;
-  mobiles = λ x j h. q.mobiles x j h ∙ r.mobiles x j h;
-  basics = λ x j h. q.basics x j h ∙ r.basics x j h;
-  extendeds = λ x j h. q.extendeds x j h ∙ r.extendeds x j h;
-  cells = λ k h. q.cells k h ∙ r.cells k h;
+  records = λ k x j h. q.records k x j h ∙ r.records k x j h;
+  cells = λ c h. q.cells c h ∙ r.cells c h;
   outside = q.outside ∙ r.outside;
 }

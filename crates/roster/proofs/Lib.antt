@@ -1,3 +1,4 @@
+pub mod Alike
 pub mod Decks
 pub mod Counts
 pub mod Sendings

@@ -1,5 +1,5 @@
 -- One packet for all decoders.
-use Rattle.std.proofs.Common.{◌≡◌, ℕ, ◌*◌, ◌<◌, ◌≤◌, Bool, true, false, cond, ◌&&◌, ◌||◌, ltb, leb, List, [], ◌∷◌, map, length, get_or, is_some, Some, None, Ok, Err, Option, Result, sym, refl, ap, ◌∙◌, ap₂, ⊎_elim, arith}
+use Rattle.std.proofs.Common.{◌≡◌, ℕ, ◌*◌, ◌<◌, ◌≤◌, Bool, true, false, cond, ◌&&◌, ◌||◌, ltb, leb, List, [], ◌∷◌, map, length, get_or, is_some, Some, None, Ok, Err, Option, Result, sym, refl, ap, ◌∙◌, subst, ap₂, ⊎_elim, arith}
 use Rattle.std.proofs.lemmas.Bool.{leb-true, le-leb, and_parts, and_from, cases_Bool, cond-true}
 use Rattle.fault.specs.declared.fault.Fault.{Fault}
 use Rattle.fault.specs.declared.refusal.Refusal.{Refusal}
@@ -8,10 +8,8 @@ use Rattle.packet.specs.declared.packet.Packet.{Packet}
 use Rattle.packet.specs.declared.target.Target.{Target}
 use Rattle.format.specs.Reading.{packet_read}
 use Rattle.block.specs.Contents.Thing.{fill, power_up, packet}
-use Rattle.state.specs.Starting.{mobile_start, basic_start, extended_start}
 use Rattle.decoder.specs.declared.records.Mobile as mobile-record
-use Rattle.decoder.specs.declared.records.Basic as basic-record
-use Rattle.decoder.specs.declared.records.Extended as extended-record
+use Rattle.decoder.specs.Fresh as accessory-record
 use Rattle.decoder.specs.declared.role.Role.{Role}
 use Rattle.decoder.specs.Alone.{Own, Rules, own, in_role, hearing, obeyed, live, life, mobile_rules, basic_rules, extended_rules}
 use Rattle.decoder.specs.Alone.Event.{heard, powered}
@@ -23,12 +21,13 @@ use Rattle.bank.specs.Hearers.{is_heard, after_hearing}
 use Rattle.bank.specs.Banks.{own_at, Turned, Kept, passes, hears_at, has_records, is_enough, unless_short, lent_too_short}
 use Rattle.bank.proofs.Counts.{count_less, passes_at}
 use Rattle.bank.proofs.Turns.{after_turned, before_turned, kept_beyond}
-use Rattle.script.specs.Decoders.{Decoder, lives, hears}
+use Rattle.script.specs.Decoders.{Decoder, lives, hears, RecordOf, decoder_as}
 use Rattle.script.specs.Decoders.Decoder.{mobile, basic, extended}
-use Rattle.script.specs.Boards.{Lent, is_lent, decoder_in, decoder_at, decoders, Rest}
+use Rattle.script.specs.Boards.{Lent, lent, bank_of, bank_size, spare_of, is_lent, decoder_at, decoders, Rest}
 use Rattle.script.specs.Calls.{met, some_hears}
 use Rattle.script.proofs.Lives.{lives_none}
-use Rattle.roster.proofs.Decks.{is_kind_lem, not_two}
+use Rattle.roster.proofs.Alike.{each, rules_of, lives_as, hears_as}
+use Rattle.roster.proofs.Decks.{is_kind_lem, not_two, as_kind, by_kinds, rest_of}
 use Rattle.roster.proofs.Counts.{count_cong, or_false, some_hear}
 
 -- ---- what one decoder does
@@ -51,18 +50,12 @@ module _ {X : Type 0} (m : Rules X) (o : Own X) (bs : List ℕ) where
   hears-told : (q : Packet) → packet_read bs ≡ Ok q → is_some (hearing m o (packet_read bs)) ≡ is_heard m q.target o
   hears-told q e = ap (λ t. is_some (hearing m o t)) e ∙ some_role (m.hears o q.target) q.instruction
 
-module _ (bs : List ℕ) (q : Packet) (e : packet_read bs ≡ Ok q) where
-  pub met-mobile : (s : ℕ) (o : Own mobile-record.Mobile) → mobile (after_hearing mobile_rules bs q.target q.instruction o) ≡ met (packet bs) (mobile o)
-  unfolding lives hears
-  met-mobile s o = ap mobile (sym (met-told mobile_rules o bs q e))
+pub met_as : (bs : List ℕ) (q : Packet) → packet_read bs ≡ Ok q → (k : Kind) (o : Own (RecordOf k)) → decoder_as k (after_hearing (rules_of k) bs q.target q.instruction o) ≡ met (packet bs) (decoder_as k o)
+met_as bs q e k o =
+    sym (ap (λ b. lives (decoder_as k o) (cond b (heard bs ∷ []) [])) (hears_as k o bs) ∙ lives_as k o _ ∙ ap (decoder_as k) (met-told (rules_of k) o bs q e))
 
-  pub met-basic : (s : ℕ) (o : Own basic-record.Basic) → basic (after_hearing basic_rules bs q.target q.instruction o) ≡ met (packet bs) (basic o)
-  unfolding lives hears
-  met-basic s o = ap basic (sym (met-told basic_rules o bs q e))
-
-  pub met-extended : (s : ℕ) (o : Own extended-record.Extended) → extended (after_hearing extended_rules bs q.target q.instruction o) ≡ met (packet bs) (extended o)
-  unfolding lives hears
-  met-extended s o = ap extended (sym (met-told extended_rules o bs q e))
+powered_as : (k : Kind) (o : Own (RecordOf k)) → decoder_as k (live (rules_of k) o powered) ≡ met power_up (decoder_as k o)
+powered_as k o = sym (lives_as k o (powered ∷ []))
 
 -- a refused packet is heard by nobody
 deaf : (bs : List ℕ) (r : Refusal) → packet_read bs ≡ Err r → (d : Decoder) → hears d bs ≡ false
@@ -80,24 +73,6 @@ refused_met bs r e = map_same (met (packet bs)) (λ d. ap (λ b. lives d (cond b
 
 pub fill_met : (ds : List Decoder) → map (met fill) ds ≡ ds
 fill_met = map_same (met fill) lives_none
-
--- ---- all decoders
-
-module _ (ks : List Kind) {n : ℕ} {c c₁ c₂ c₃ : List ℕ} (km : Kept (is_kind ks Mobile) n c c₁) (kb : Kept (is_kind ks Basic) n c₁ c₂) (ke : Kept (is_kind ks Extended) n c₂ c₃) where
-  -- the mobile decoders, then the basic ones, then the extended ones
-  pub first_turned : {X : Type 0} {f : ℕ → Own X → Own X} {xs xs' : List X} → Turned (is_kind ks Mobile) n f xs c xs' c₁ → Turned (is_kind ks Mobile) n f xs c xs' c₃
-  first_turned t = after_turned t (λ s l h. ke.there s (λ _ i. not_two ks Mobile Extended s refl h i) ∙ kb.there s (λ _ i. not_two ks Mobile Basic s refl h i))
-
-  pub second_turned : {X : Type 0} {f : ℕ → Own X → Own X} {xs xs' : List X} → Turned (is_kind ks Basic) n f xs c₁ xs' c₂ → Turned (is_kind ks Basic) n f xs c xs' c₃
-  second_turned t =
-      before_turned (after_turned t (λ s l h. ke.there s (λ _ i. not_two ks Basic Extended s refl h i))) (λ s l h. km.there s (λ _ i. not_two ks Basic Mobile s refl h i))
-
-  pub third_turned : {X : Type 0} {f : ℕ → Own X → Own X} {xs xs' : List X} → Turned (is_kind ks Extended) n f xs c₂ xs' c₃ → Turned (is_kind ks Extended) n f xs c xs' c₃
-  third_turned t =
-      before_turned t (λ s l h. kb.there s (λ _ i. not_two ks Extended Basic s refl h i) ∙ km.there s (λ _ i. not_two ks Extended Mobile s refl h i))
-
-  pub all_beyond : (k : ℕ) → 1024 * n ≤ k → get_or c₃ k 0 ≡ get_or c k 0
-  all_beyond k h = kept_beyond ke k h ∙ kept_beyond kb k h ∙ kept_beyond km k h
 
 -- ---- who hears
 
@@ -120,11 +95,10 @@ module _ {X : Type 0} (m : Rules X) (t : Target) (h : ℕ → Bool) (bank : List
   unfolding hears_at
   hears_not cells s e = ap (λ b. b && passes (λ x. is_heard m t (own x (window cells s))) bank (count_below h s)) e
 
--- what was lent is enough
+-- ---- what is lent is enough
+
 pub record Enough (ks : List Kind) (l : Lent) : Type 0 where
-  pub mobiles : count_of ks Mobile ≤ length l.mobiles
-  pub basics : count_of ks Basic ≤ length l.basics
-  pub extendeds : count_of ks Extended ≤ length l.extendeds
+  pub records : (k : Kind) → count_of ks k ≤ bank_size k l
   pub cells : 1024 * length ks ≤ length l.cells
 
 pub enough : (ks : List Kind) (l : Lent) → is_lent ks l ≡ true → Enough ks l
@@ -133,88 +107,114 @@ enough ks l e =
     let b = and_parts (has_records ks Basic l.basics) (has_records ks Extended l.extendeds && leb (1024 * length ks) (length l.cells)) a.1 in
     let c = and_parts (has_records ks Extended l.extendeds) (leb (1024 * length ks) (length l.cells)) b.1 in
     record {
-      mobiles = leb-true (count_of ks Mobile) (length l.mobiles) a.0;
-      basics = leb-true (count_of ks Basic) (length l.basics) b.0;
-      extendeds = leb-true (count_of ks Extended) (length l.extendeds) c.0;
+      records = each (λ k. count_of ks k ≤ bank_size k l) (leb-true (count_of ks Mobile) (length l.mobiles) a.0) (leb-true (count_of ks Basic) (length l.basics) b.0) (leb-true (count_of ks Extended) (length l.extendeds) c.0);
       cells = leb-true (1024 * length ks) (length l.cells) c.1;
     }
 
+pub lent_from : (ks : List Kind) (l : Lent) → Enough ks l → is_lent ks l ≡ true
+lent_from ks l r = and_from _ _ (le-leb _ _ (r.records Mobile)) (and_from _ _ (le-leb _ _ (r.records Basic)) (and_from _ _ (le-leb _ _ (r.records Extended)) (le-leb _ _ r.cells)))
+
 pub still_lent : {ks : List Kind} {l l' : Lent} → Rest ks l l' → is_lent ks l ≡ true → is_lent ks l' ≡ true
 still_lent {ks} {l} {l'} r e =
-    ap (λ n. leb (count_of ks Mobile) n && (has_records ks Basic l'.basics && (has_records ks Extended l'.extendeds && leb (1024 * length ks) (length l'.cells)))) r.mobile_size
-    ∙ ap (λ n. has_records ks Mobile l.mobiles && (leb (count_of ks Basic) n && (has_records ks Extended l'.extendeds && leb (1024 * length ks) (length l'.cells)))) r.basic_size
-    ∙ ap (λ n. has_records ks Mobile l.mobiles && (has_records ks Basic l.basics && (leb (count_of ks Extended) n && leb (1024 * length ks) (length l'.cells)))) r.extended_size
-    ∙ ap (λ n. has_records ks Mobile l.mobiles && (has_records ks Basic l.basics && (has_records ks Extended l.extendeds && leb (1024 * length ks) n))) r.size
-    ∙ e
+    let h = enough ks l e in
+    lent_from ks l' (record { records = λ k. omega (arith, r.sizes k, h.records k); cells = omega (arith, r.size, h.cells) })
+
+-- ---- all decoders
 
 module _ (ks : List Kind) (l : Lent) (room : Enough ks l) (bs : List ℕ) (q : Packet) (told : packet_read bs ≡ Ok q) where
-  abbrev qm : List ℕ → ℕ → Bool
-  qm c = hears_at mobile_rules q.target (is_kind ks Mobile) l.mobiles c
+  abbrev heard_of : (k : Kind) → List ℕ → ℕ → Bool
+  heard_of k c = hears_at (rules_of k) q.target (is_kind ks k) (bank_of k l) c
 
-  abbrev qb : List ℕ → ℕ → Bool
-  qb c = hears_at basic_rules q.target (is_kind ks Basic) l.basics c
+  own_heard : (k : Kind) (s : ℕ) → s < length ks → is_kind ks k s ≡ true → hears (decoder_at ks l s) bs ≡ heard_of k l.cells s
+  own_heard k s low h =
+      ap (λ d. hears d bs) (as_kind ks l k s h) ∙ hears_as k _ bs ∙ hears-told (rules_of k) _ bs q told
+      ∙ sym (hears-own (rules_of k) q.target (is_kind ks k) (bank_of k l) (spare_of k) l.cells s (length ks) low (room.records k) h)
 
-  abbrev qe : List ℕ → ℕ → Bool
-  qe c = hears_at extended_rules q.target (is_kind ks Extended) l.extendeds c
+  none_heard : (j k : Kind) (s : ℕ) → same_kind j k ≡ false → is_kind ks j s ≡ true → heard_of k l.cells s ≡ false
+  none_heard j k s apart h =
+      hears_not (rules_of k) q.target (is_kind ks k) (bank_of k l) l.cells s (⊎_elim (λ i. absurd (not_two ks j k s apart h i)) (λ i. i) (cases_Bool (is_kind ks k s)))
 
-  no_kind : (j k : Kind) (s : ℕ) → is_kind ks j s ≡ true → same_kind j k ≡ false → is_kind ks k s ≡ false
-  no_kind j k s h apart = ⊎_elim (λ i. absurd (not_two ks j k s apart h i)) (λ i. i) (cases_Bool (is_kind ks k s))
-
-  each_hears : (s : ℕ) → s < length ks → hears (decoder_at ks l s) bs ≡ (qm l.cells s || (qb l.cells s || qe l.cells s))
-  unfolding hears decoder_at
-  each_hears s low = go (get_or ks s Mobile) refl
+  each_hears : (s : ℕ) → s < length ks → hears (decoder_at ks l s) bs ≡ (heard_of Mobile l.cells s || (heard_of Basic l.cells s || heard_of Extended l.cells s))
+  each_hears s low = go (get_or ks s Mobile) (is_kind_lem ks (get_or ks s Mobile) s refl)
     where
-      om : Own mobile-record.Mobile
-      om = own_at (is_kind ks Mobile) (record { state = mobile_start }) l.mobiles l.cells s
+      go : (k : Kind) → is_kind ks k s ≡ true → hears (decoder_at ks l s) bs ≡ (heard_of Mobile l.cells s || (heard_of Basic l.cells s || heard_of Extended l.cells s))
+      go Mobile h =
+          own_heard Mobile s low h
+          ∙ sym (ap₂ (λ b e. heard_of Mobile l.cells s || (b || e)) (none_heard Mobile Basic s refl h) (none_heard Mobile Extended s refl h) ∙ or_false _)
+      go Basic h =
+          own_heard Basic s low h
+          ∙ sym (ap₂ (λ m e. m || (heard_of Basic l.cells s || e)) (none_heard Basic Mobile s refl h) (none_heard Basic Extended s refl h) ∙ or_false _)
+      go Extended h =
+          own_heard Extended s low h
+          ∙ sym (ap₂ (λ m b. m || (b || heard_of Extended l.cells s)) (none_heard Extended Mobile s refl h) (none_heard Extended Basic s refl h))
 
-      ob : Own basic-record.Basic
-      ob = own_at (is_kind ks Basic) (record { address = 0; state = basic_start }) l.basics l.cells s
+-- ---- three deliveries, to the mobile decoders, then the basic ones, then the extended ones
 
-      oe : Own extended-record.Extended
-      oe = own_at (is_kind ks Extended) (record { address = 0; state = extended_start }) l.extendeds l.cells s
+-- what came of one, to the kind k, which some decoders heard
+pub record Delivery (ks : List Kind) (bs : List ℕ) (q : Packet) (k : Kind) (bank bank' : List (RecordOf k)) (c c' : List ℕ) (heard : ℕ) : Type 0 where
+  pub count : heard ≡ count_below (hears_at (rules_of k) q.target (is_kind ks k) bank c) (length ks)
+  pub turned : Turned (is_kind ks k) (length ks) (λ _. after_hearing (rules_of k) bs q.target q.instruction) bank c bank' c'
+  pub kept : Kept (is_kind ks k) (length ks) c c'
+  pub room : 1024 * length ks ≤ length c'
 
-      go : (k : Kind) → get_or ks s Mobile ≡ k → hears (decoder_in k ks l s) bs ≡ (qm l.cells s || (qb l.cells s || qe l.cells s))
-      go Mobile e =
-          let h = is_kind_lem ks Mobile s e in
-          hears-told mobile_rules om bs q told
-          ∙ sym (ap₂ ◌||◌ (hears-own mobile_rules q.target (is_kind ks Mobile) l.mobiles (record { state = mobile_start }) l.cells s (length ks) low room.mobiles h) (ap₂ ◌||◌ (hears_not basic_rules q.target (is_kind ks Basic) l.basics l.cells s (no_kind Mobile Basic s h refl)) (hears_not extended_rules q.target (is_kind ks Extended) l.extendeds l.cells s (no_kind Mobile Extended s h refl))) ∙ or_false _)
-      go Basic e =
-          let h = is_kind_lem ks Basic s e in
-          hears-told basic_rules ob bs q told
-          ∙ sym (ap₂ ◌||◌ (hears_not mobile_rules q.target (is_kind ks Mobile) l.mobiles l.cells s (no_kind Basic Mobile s h refl)) (ap₂ ◌||◌ (hears-own basic_rules q.target (is_kind ks Basic) l.basics (record { address = 0; state = basic_start }) l.cells s (length ks) low room.basics h) (hears_not extended_rules q.target (is_kind ks Extended) l.extendeds l.cells s (no_kind Basic Extended s h refl))) ∙ or_false _)
-      go Extended e =
-          let h = is_kind_lem ks Extended s e in
-          hears-told extended_rules oe bs q told
-          ∙ sym (ap₂ ◌||◌ (hears_not mobile_rules q.target (is_kind ks Mobile) l.mobiles l.cells s (no_kind Extended Mobile s h refl)) (ap₂ ◌||◌ (hears_not basic_rules q.target (is_kind ks Basic) l.basics l.cells s (no_kind Extended Basic s h refl)) (hears-own extended_rules q.target (is_kind ks Extended) l.extendeds (record { address = 0; state = extended_start }) l.cells s (length ks) low room.extendeds h)))
+ok_is : {A : Type 0} (b : Bool) (a v : A) (r : Result A Fault) → r ≡ unless_short b a → b ≡ true → r ≡ Ok v → v ≡ a
+ok_is b a v r e t o = let q : Ok v ≡ Ok a = sym o ∙ e ∙ cond-true b (Ok a) (Err lent_too_short) t in cc
 
-  -- by the counts of three deliveries, each over the cells that the one before left
-  pub some_by_counts : (c₁ c₂ : List ℕ) → Kept (is_kind ks Mobile) (length ks) l.cells c₁ → Kept (is_kind ks Basic) (length ks) c₁ c₂ → some_hears (decoders ks l) bs ≡ (ltb 0 (count_below (qm l.cells) (length ks)) || (ltb 0 (count_below (qb c₁) (length ks)) || ltb 0 (count_below (qe c₂) (length ks))))
-  unfolding decoders
-  some_by_counts c₁ c₂ km kb =
-      some_hear (decoder_at ks l) bs (qm l.cells) (qb l.cells) (qe l.cells) (length ks) each_hears
-      ∙ ap₂ (λ b e. ltb 0 (count_below (qm l.cells) (length ks)) || (ltb 0 b || ltb 0 e))
-      (count_cong (qb l.cells) (qb c₁) (length ks) (λ s _. sym (hears_same basic_rules q.target (is_kind ks Basic) l.basics l.cells c₁ s (λ h. km.there s (λ _ i. not_two ks Basic Mobile s refl h i)))))
-      (count_cong (qe l.cells) (qe c₂) (length ks) (λ s _. sym (hears_same extended_rules q.target (is_kind ks Extended) l.extendeds l.cells c₂ s (λ h. kb.there s (λ _ i. not_two ks Extended Basic s refl h i) ∙ km.there s (λ _ i. not_two ks Extended Mobile s refl h i)))))
+pub delivered : {bs : List ℕ} {q : Packet} (ks : List Kind) (k : Kind) {bank bank' : List (RecordOf k)} {c c' : List ℕ} {heard : ℕ} (r : Result ℕ Fault) → count_of ks k ≤ length bank → 1024 * length ks ≤ length c → r ≡ unless_short (is_enough ks k bank c) (count_below (hears_at (rules_of k) q.target (is_kind ks k) bank c) (length ks)) → r ≡ Ok heard → (is_enough ks k bank c ≡ true → Turned (is_kind ks k) (length ks) (λ _. after_hearing (rules_of k) bs q.target q.instruction) bank c bank' c') → (is_enough ks k bank c ≡ true → Kept (is_kind ks k) (length ks) c c') → Delivery ks bs q k bank bank' c c' heard
+delivered ks k {bank} {c = c} {c' = c'} r room cells e o turned kept =
+    let t = and_from _ _ (le-leb (count_of ks k) (length bank) room) (le-leb (1024 * length ks) (length c) cells) in
+    record { count = ok_is _ _ _ r e t o; turned = turned t; kept = kept t; room = subst (λ n. 1024 * length ks ≤ n) (sym (kept t).size) cells }
+
+-- what they come to
+pub record Sent (ks : List Kind) (l l' : Lent) (bs : List ℕ) (heard : Bool) : Type 0 where
+  pub answer : heard ≡ some_hears (decoders ks l) bs
+  pub after : decoders ks l' ≡ map (met (packet bs)) (decoders ks l)
+  pub rest : Rest ks l l'
+
+module _ (ks : List Kind) (l l' : Lent) (c₁ c₂ : List ℕ) (bs : List ℕ) (q : Packet) (told : packet_read bs ≡ Ok q) (i j k : ℕ) where
+  module _ (m : Delivery ks bs q Mobile l.mobiles l'.mobiles l.cells c₁ i) (b : Delivery ks bs q Basic l.basics l'.basics c₁ c₂ j) (e : Delivery ks bs q Extended l.extendeds l'.extendeds c₂ l'.cells k) where
+    -- the windows of one kind stay when it is another's turn
+    past_mobiles : (k : Kind) → same_kind k Mobile ≡ false → (s : ℕ) → is_kind ks k s ≡ true → window c₁ s ≡ window l.cells s
+    past_mobiles k apart s h = m.kept.there s (λ _ i. not_two ks k Mobile s apart h i)
+
+    past_basics : (k : Kind) → same_kind k Basic ≡ false → (s : ℕ) → is_kind ks k s ≡ true → window c₂ s ≡ window c₁ s
+    past_basics k apart s h = b.kept.there s (λ _ i. not_two ks k Basic s apart h i)
+
+    past_extendeds : (k : Kind) → same_kind k Extended ≡ false → (s : ℕ) → is_kind ks k s ≡ true → window l'.cells s ≡ window c₂ s
+    past_extendeds k apart s h = e.kept.there s (λ _ i. not_two ks k Extended s apart h i)
+
+    all_turned : (k : Kind) → Turned (is_kind ks k) (length ks) (λ _. after_hearing (rules_of k) bs q.target q.instruction) (bank_of k l) l.cells (bank_of k l') l'.cells
+    all_turned Mobile = after_turned m.turned (λ s _ h. past_extendeds Mobile refl s h ∙ past_basics Mobile refl s h)
+    all_turned Basic = before_turned (after_turned b.turned (λ s _ h. past_extendeds Basic refl s h)) (λ s _ h. past_mobiles Basic refl s h)
+    all_turned Extended = before_turned e.turned (λ s _ h. past_basics Extended refl s h ∙ past_mobiles Extended refl s h)
+
+    -- who hears does so by the cells as they were before all three
+    some_by_counts : Enough ks l → some_hears (decoders ks l) bs ≡ (ltb 0 i || (ltb 0 j || ltb 0 k))
+    unfolding decoders
+    some_by_counts room =
+        some_hear (decoder_at ks l) bs (heard_of ks l room bs q told Mobile l.cells) (heard_of ks l room bs q told Basic l.cells) (heard_of ks l room bs q told Extended l.cells) (length ks) (each_hears ks l room bs q told)
+        ∙ sym (ap₂ (λ m b. ltb 0 m || b) m.count (ap₂ (λ b e. ltb 0 b || ltb 0 e)
+        (b.count ∙ count_cong _ _ (length ks) (λ s _. hears_same basic_rules q.target (is_kind ks Basic) l.basics l.cells c₁ s (past_mobiles Basic refl s)))
+        (e.count ∙ count_cong _ _ (length ks) (λ s _. hears_same extended_rules q.target (is_kind ks Extended) l.extendeds l.cells c₂ s (λ h. past_basics Extended refl s h ∙ past_mobiles Extended refl s h)))))
+
+    pub sent_to_all : Enough ks l → l'.outside ≡ l.outside → Sent ks l l' bs (ltb 0 i || (ltb 0 j || ltb 0 k))
+    sent_to_all room outside = record {
+      answer = sym (some_by_counts room);
+      after = by_kinds ks l l' (λ k. after_hearing (rules_of k) bs q.target q.instruction) all_turned (met (packet bs)) (met_as bs q told);
+      rest =
+          rest_of ks l l' (λ k. after_hearing (rules_of k) bs q.target q.instruction) all_turned (e.kept.size ∙ b.kept.size ∙ m.kept.size)
+          (λ c past. kept_beyond e.kept c past ∙ kept_beyond b.kept c past ∙ kept_beyond m.kept c past) outside;
+    }
 
 -- ---- a power-up
 
-module _ (s : ℕ) where
-  pub start_mobile : (o : Own mobile-record.Mobile) → mobile (live mobile_rules o powered) ≡ met power_up (mobile o)
-  unfolding lives
-  start_mobile o = refl
+module _ (ks : List Kind) (l : Lent) (ms : List mobile-record.Mobile) (bs : List accessory-record.Basic) (es : List accessory-record.Extended) where
+  abbrev up : Lent
+  up = lent ms bs es l.cells l.outside
 
-  pub start_basic : (o : Own basic-record.Basic) → basic (live basic_rules o powered) ≡ met power_up (basic o)
-  unfolding lives
-  start_basic o = refl
-
-  pub start_extended : (o : Own extended-record.Extended) → extended (live extended_rules o powered) ≡ met power_up (extended o)
-  unfolding lives
-  start_extended o = refl
-
--- ---- the answers of the banks
-
-pub is_enough_lem : {X : Type 0} (ks : List Kind) (k : Kind) (bank : List X) (cells : List ℕ) → count_of ks k ≤ length bank → 1024 * length ks ≤ length cells → is_enough ks k bank cells ≡ true
-is_enough_lem ks k bank cells a b = and_from _ _ (le-leb (count_of ks k) (length bank) a) (le-leb (1024 * length ks) (length cells) b)
-
-pub ok_is : {A : Type 0} (b : Bool) (a v : A) (r : Result A Fault) → r ≡ unless_short b a → b ≡ true → r ≡ Ok v → v ≡ a
-ok_is b a v r e t o = let q : Ok v ≡ Ok a = sym o ∙ e ∙ cond-true b (Ok a) (Err lent_too_short) t in cc
+  pub powered_all : is_lent ks l ≡ true → ((k : Kind) → has_records ks k (bank_of k l) ≡ true → (cells : List ℕ) → Turned (is_kind ks k) (length ks) (λ _ o. live (rules_of k) o powered) (bank_of k l) cells (bank_of k up) cells) → (decoders ks up ≡ map (met power_up) (decoders ks l)) × Rest ks l up
+  powered_all e turned =
+      let each_turned = λ (k : Kind). turned k (le-leb _ _ ((enough ks l e).records k)) l.cells in (
+        by_kinds ks l up (λ k o. live (rules_of k) o powered) each_turned (met power_up) powered_as,
+        rest_of ks l up (λ k o. live (rules_of k) o powered) each_turned refl (λ c past. refl) refl,
+      )

@@ -1,9 +1,10 @@
 -- A block in the middle: the records before the offset o have acted.
 use Rattle.std.proofs.Common.{◌≡◌, ℕ, ◌+◌, ◌≤◌, Bool, true, false, List, map, length, Some, None, Ok, Err, Result, sym, refl, ap, ◌∙◌, arith}
+use Rattle.std.proofs.lemmas.Bool.{cond-true}
 use Rattle.fault.specs.declared.fault.Fault.{Fault}
 use Rattle.fault.specs.declared.refusal.Refusal.{Refusal}
 use Rattle.block.specs.declared.records.Carried.{Carried}
-use Rattle.block.specs.Contents.{Thing, Placed, record_at, ends_at, thing_in, placed_in, found}
+use Rattle.block.specs.Contents.{Thing, Placed, is_block_length, record_at, ends_at, thing_in, placed_in, found}
 use Rattle.block.specs.Contents.Thing.{fill, power_up, packet}
 use Rattle.block.specs.Reading.{reading, reading_from, carried, fault_of}
 use Rattle.block.proofs.Shapes.{Found, told_as, later, ends_inside}
@@ -12,7 +13,7 @@ use Rattle.bank.specs.declared.kind.Kind.{Kind}
 use Rattle.script.specs.declared.taken.Taken.{Taken}
 use Rattle.script.specs.Decoders.{Decoder}
 use Rattle.script.specs.Boards.{Lent, decoders, Rest}
-use Rattle.script.specs.Calls.{met, sent, noted, nothing_taken, counted, counts, after_records, with_fault, taken_from}
+use Rattle.script.specs.Calls.{met, sent, noted, nothing_taken, counted, counts, after_records, with_fault, taking, given}
 use Rattle.roster.specs.declared.banks.BanksMut.{BanksMut}
 use Rattle.roster.specs.Held.{SameLenders}
 use Rattle.roster.proofs.Decks.{rest_then}
@@ -76,6 +77,11 @@ pub record Midway (ks : List Kind) (l l' : Lent) (b : List ℕ) (o : ℕ) (t : T
   pub few : packets_in t ≤ o
   pub inside : o ≤ length b
 
+-- and at its end they are those
+pub record Ended (ks : List Kind) (l l' : Lent) (b : List ℕ) (t : Taken) : Type 0 where
+  pub answer : Ok t ≡ taking (decoders ks l) b
+  pub after : decoders ks l' ≡ after_records (decoders ks l) (given b)
+
 module _ {ks : List Kind} {l l' : Lent} {b : List ℕ} {o : ℕ} {t : Taken} (m : Midway ks l l' b o t) where
   module _ (c : Carried) (e : found (Ok (Some c)) ≡ record_at b o) where
     is_found : Found b o (placed_in c)
@@ -103,19 +109,24 @@ module _ {ks : List Kind} {l l' : Lent} {b : List ℕ} {o : ℕ} {t : Taken} (m 
         }
 
   -- the walk ends by a fault, or without one
-  pub midway_fault : (f : Fault) → found (Err f) ≡ record_at b o → (with_fault t (Some f) ≡ taken_from (decoders ks l) b) × (decoders ks l' ≡ after_records (decoders ks l) (carried (reading b)))
-  midway_fault f e =
-      let on = reads_as b o (Err f) e in (
-        ap (λ r. with_fault (counts t (decoders ks l') (carried r)) (fault_of r)) (sym on)
-            ∙ ap (λ s. with_fault s (fault_of (reading_from b o))) m.counts_are ∙ ap (with_fault (counts nothing_taken (decoders ks l) (carried (reading b)))) m.fault_is,
-        ap (λ r. after_records (decoders ks l') (carried r)) (sym on) ∙ m.after_is,
-      )
+  module _ (long : is_block_length (length b) ≡ true) where
+    pub midway_fault : (f : Fault) → found (Err f) ≡ record_at b o → Ended ks l l' b (with_fault t (Some f))
+    midway_fault f e =
+        let on = reads_as b o (Err f) e in record {
+          answer =
+              ap Ok (ap (λ r. with_fault (counts t (decoders ks l') (carried r)) (fault_of r)) (sym on)
+              ∙ ap (λ s. with_fault s (fault_of (reading_from b o))) m.counts_are ∙ ap (with_fault (counts nothing_taken (decoders ks l) (carried (reading b)))) m.fault_is)
+              ∙ sym (cond-true _ _ _ long);
+          after = ap (λ r. after_records (decoders ks l') (carried r)) (sym on) ∙ m.after_is ∙ ap (after_records (decoders ks l)) (sym (cond-true _ _ _ long));
+        }
 
-  pub midway_all : found (Ok None) ≡ record_at b o → (t ≡ taken_from (decoders ks l) b) × (decoders ks l' ≡ after_records (decoders ks l) (carried (reading b)))
-  midway_all e =
-      let on = reads_as b o (Ok None) e in (
-        ap (λ f. with_fault t f) m.no_fault
-            ∙ ap (λ r. with_fault (counts t (decoders ks l') (carried r)) (fault_of r)) (sym on)
-            ∙ ap (λ s. with_fault s (fault_of (reading_from b o))) m.counts_are ∙ ap (with_fault (counts nothing_taken (decoders ks l) (carried (reading b)))) m.fault_is,
-        ap (λ r. after_records (decoders ks l') (carried r)) (sym on) ∙ m.after_is,
-      )
+    pub midway_all : found (Ok None) ≡ record_at b o → Ended ks l l' b t
+    midway_all e =
+        let on = reads_as b o (Ok None) e in record {
+          answer =
+              ap Ok (ap (λ f. with_fault t f) m.no_fault
+              ∙ ap (λ r. with_fault (counts t (decoders ks l') (carried r)) (fault_of r)) (sym on)
+              ∙ ap (λ s. with_fault s (fault_of (reading_from b o))) m.counts_are ∙ ap (with_fault (counts nothing_taken (decoders ks l) (carried (reading b)))) m.fault_is)
+              ∙ sym (cond-true _ _ _ long);
+          after = ap (λ r. after_records (decoders ks l') (carried r)) (sym on) ∙ m.after_is ∙ ap (after_records (decoders ks l)) (sym (cond-true _ _ _ long));
+        }

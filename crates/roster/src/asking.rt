@@ -14,6 +14,7 @@ use script::{DecoderName, DecoderState};
 
 impl<'a> Banks<'a> {
     /// Copies all of a decoder's volatile part to the place.
+    // A rule of the project: the state is copied into a record that the caller lends, and no new one is made for it.
     pub fn state<M: Memory>(
         self,
         kinds: &[Kind],
@@ -50,7 +51,8 @@ impl<'a> Banks<'a> {
         bank::variable(memory, slot, cv)
     }
 
-    // These two share `mobile`; each line that is left names what it reads.
+    // Two calls and not one over what is read: each contract has its own numbers, and a caller sees at the call which
+    // it asks.
 
     /// Whether a function of a mobile decoder is on: 0, which is FL, to 68.
     pub fn function<M: Memory>(

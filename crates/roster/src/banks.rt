@@ -9,6 +9,8 @@ pub struct Banks<'a> {
 }
 
 /// A bank of records for each kind, lent to be changed.
+// In no struct with kinds and memory: where the banks are shared the memory is lent by `&` or by `&mut`, so it would
+// be three.
 // Two structs, as a slice has two references: who only reads need not hold the banks alone.
 // What the banks before a call are to those after it (`Rest`, `SameLenders`) is a relation of two values and no fact
 // of one, so it stands in the clauses.

@@ -1,7 +1,7 @@
 ghost use Rattle.std.specs.Prelude.{◌≡◌, ◌+◌, ◌^◌, ◌<◌};
 ghost use Rattle.script.specs.Calls.{noted};
 
-use fault::{Fault, Refusal};
+use fault::Refusal;
 use script::Taken;
 
 /// Counts one packet more, whose kind byte stands at the offset, by what came of it.
@@ -14,9 +14,7 @@ pub(crate) fn note(taken: &mut Taken, offset: usize, outcome: Result<bool, Refus
         Ok(false) => taken.unheard += 1,
         Err(refusal) => {
             taken.refused += 1;
-            if taken.refusal.is_none() {
-                taken.refusal = Some(Fault { refusal, offset });
-            }
+            taken.refusal.get_or_insert(refusal.at(offset));
         }
     }
 }

@@ -1,10 +1,10 @@
-ghost use Rattle.std.specs.Prelude.{◌≡◌, ◌^◌, ◌<◌, length, Ok};
+ghost use Rattle.std.specs.Prelude.{◌≡◌, Ok};
 ghost use Rattle.script.specs.Boards.{is_lent};
 ghost use Rattle.script.specs.Calls.{when_lent};
 ghost use Rattle.roster.specs.Held.{seen, Located};
 
 use crate::banks::{Banks, BanksMut};
-use bank::{Kind, count_of, slot_of};
+use bank::{Kind, is_enough, slot_of};
 use fault::{Fault, Refusal};
 use memory::Memory;
 use script::DecoderName;
@@ -29,16 +29,15 @@ impl Banks<'_> {
     fn is_lent<M: Memory>(self, kinds: &[Kind], memory: &M) -> bool
         ensures { result ≡ is_lent kinds.now (seen M.Memory self.entry memory.now) }
     {
-        let windows = memory.count() / 1024;
-        count_of(Kind::Mobile, kinds) <= self.mobiles.len()
-            && count_of(Kind::Basic, kinds) <= self.basics.len()
-            && count_of(Kind::Extended, kinds) <= self.extendeds.len()
-            && kinds.len() <= windows
+        is_enough(self.mobiles, Kind::Mobile, kinds, memory)
+            && is_enough(self.basics, Kind::Basic, kinds, memory)
+            && is_enough(self.extendeds, Kind::Extended, kinds, memory)
     }
 
     /// Refuses where too little is lent.
-    // That enough is lent stays a `requires` of the few functions behind `take`: a struct with that fact would hold the
-    // kinds, the banks and the memory by reference, and each method would have to say of all three that they stay.
+    // That enough is lent stays a `requires` of the few functions behind `take` and behind a run: a struct with that fact
+    // would hold the kinds, the banks and the memory by reference, and each method would have to say of all three that
+    // they stay.
     pub(crate) fn check<M: Memory>(self, kinds: &[Kind], memory: &M) -> Result<(), Fault>
         ensures { result ≡ when_lent (is_lent kinds.now (seen M.Memory self.entry memory.now)) (Ok tt) }
     {
@@ -50,6 +49,7 @@ impl Banks<'_> {
     }
 
     /// The slot of a decoder, refused where too little is lent or there is no such decoder.
+    #[tactic(auto, using(crate::proofs::Askings::short_of, crate::proofs::Askings::located, crate::proofs::Askings::enough_of))]
     pub(crate) fn locate<M: Memory>(
         self,
         kinds: &[Kind],

@@ -1,4 +1,5 @@
-//! What happens to all decoders of a board at their slots: a block, a setting, a reading. Every call is lent the banks and the memory.
+//! What happens to all decoders of a board at their slots: a block, a setting, a reading. Every call is lent the
+//! banks and the memory.
 
 #![tactic(auto)]
 

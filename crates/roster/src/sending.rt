@@ -14,6 +14,7 @@ use reader::read;
 
 impl BanksMut<'_> {
     /// Sends a packet to every decoder, and answers whether some decoder heard it.
+    #[tactic(auto, using(crate::proofs::Sendings::refused_met))]
     pub(crate) fn send<M: Memory>(
         &mut self,
         kinds: &[Kind],

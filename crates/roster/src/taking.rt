@@ -16,6 +16,9 @@ impl BanksMut<'_> {
     /// Takes a block: each record that it carries acts on the decoders, in order.
     ///
     /// Refused, and nothing acts, where too little is lent or the block is empty or has more than 512 bytes.
+    // `rest`, `refused` and `lenders` stay apart: that nothing else changed is for the reader, that the lenders are
+    // the same is
+    // for the check of a struct of references, and one record of both would hide the first behind the second.
     pub fn take<M: Memory>(
         &mut self,
         kinds: &[Kind],
@@ -58,6 +61,7 @@ impl BanksMut<'_> {
         Ok(taken)
     }
 
+    #[tactic(auto, using(crate::proofs::Sendings::fill_met))]
     fn take_record<M: Memory>(
         &mut self,
         kinds: &[Kind],

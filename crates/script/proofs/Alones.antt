@@ -1,5 +1,6 @@
 -- Every decoder is what it is alone.
-use Rattle.std.proofs.Common.{◌≡◌, ℕ, zero, suc, Bool, true, false, cond, List, [], ◌∷◌, map, take, Some, Result, sym, refl, ap, ◌∙◌, arith}
+use Rattle.std.proofs.Common.{◌≡◌, ℕ, zero, suc, Bool, true, false, cond, List, [], ◌∷◌, map, take, Some, option_map, Result, sym, refl, ap, ◌∙◌}
+use Rattle.std.proofs.lemmas.Option.{none-some}
 use Rattle.std.specs.List.{slice_get}
 use Rattle.block.specs.Contents.{Thing}
 use Rattle.script.specs.declared.name.DecoderName.{DecoderName}
@@ -17,24 +18,24 @@ use Rattle.script.specs.Boards.{Lent, decoders}
 use Rattle.script.specs.Promises.{in_records, is_named, in_call, events, alone_after, Ran, Alone, Apart}
 use Rattle.bank.specs.declared.kind.Kind.{Kind}
 use Rattle.script.proofs.Lives.{lives_none, lives_more, kind_lives}
-use Rattle.script.proofs.Names.{mapped, of_kind-map, changed_under}
+use Rattle.script.proofs.Names.{of_kind-map, changed_under}
 
 -- all meet a record
-under_met : (n : DecoderName) (t : Thing) (ds : List Decoder) → decoder_of n (map (met t) ds) ≡ mapped (met t) (decoder_of n ds)
+under_met : (n : DecoderName) (t : Thing) (ds : List Decoder) → decoder_of n (map (met t) ds) ≡ option_map (met t) (decoder_of n ds)
 under_met n t ds = of_kind-map (met t) kind_of kind_of (λ d. kind_lives (meets d t) d) n.kind n.number ds
 
 module _ (n : DecoderName) where
   pub alone_records : (d : Decoder) (ds : List Decoder) (rs : List (ℕ × Thing)) → decoder_of n ds ≡ Some d → decoder_of n (after_records ds rs) ≡ Some (lives d (in_records d rs))
   alone_records d ds [] e = e ∙ ap Some (sym (lives_none d))
   alone_records d ds (r ∷ rs) e =
-      alone_records (met r.1 d) (map (met r.1) ds) rs (under_met n r.1 ds ∙ ap (mapped (met r.1)) e)
+      alone_records (met r.1 d) (map (met r.1) ds) rs (under_met n r.1 ds ∙ ap (option_map (met r.1)) e)
       ∙ ap Some (sym (lives_more d (meets d r.1) (in_records (met r.1 d) rs)))
 
   pub alone_call : (d : Decoder) (ds : List Decoder) (c : Call) → decoder_of n ds ≡ Some d → decoder_of n (after_call ds c) ≡ Some (lives d (in_call n d c))
   alone_call d ds (Take b) e = alone_records d ds (given b.now) e
   alone_call d ds (Ask m q) e =
       changed_under (λ d. lives d (events_of q)) (kind_lives (events_of q)) n m ds
-      ∙ ap (λ o. cond (is_named n m) (mapped (λ d. lives d (events_of q)) o) o) e
+      ∙ ap (λ o. cond (is_named n m) (option_map (λ d. lives d (events_of q)) o) o) e
       ∙ go (is_named n m)
     where
       go : (b : Bool) → cond b (Some (lives d (events_of q))) (Some d) ≡ Some (lives d (cond b (events_of q) []))
@@ -49,7 +50,7 @@ module _ (n : DecoderName) where
 
   -- the answer to a request, by what was before it
   pub asked_at : (d : Decoder) (ds : List Decoder) (cs : List Call) (i : ℕ) (q : Request) → decoder_of n ds ≡ Some d → slice_get cs i ≡ Some (Ask n q) → slice_get (answers_to ds cs) i ≡ Some (request_answer (lives d (events n d (take i cs))) q)
-  asked_at d ds [] i q e at = let z : ◌≡◌ {A = ℕ} 0 1 = cc in absurd (omega arith)
+  asked_at d ds [] i q e at = absurd (none-some _ at)
   asked_at d ds (c ∷ cs) zero q e at =
       let is : c ≡ Ask n q = cc in
       ap (λ c. Some (answer_to ds c)) is ∙ ap (λ o. Some (about (λ d. request_answer d q) o)) e ∙ ap (λ d. Some (request_answer d q)) (sym (lives_none d))
@@ -63,7 +64,7 @@ kind_fitted (fit.Basic a) = refl
 kind_fitted (fit.Extended a) = refl
 
 pub found-fitted : (n : DecoderName) (f : Fit) (fs : List Fit) → fit_of n fs ≡ Some f → decoder_of n (map fitted fs) ≡ Some (fitted f)
-found-fitted n f fs e = of_kind-map fitted fit_kind kind_of kind_fitted n.kind n.number fs ∙ ap (mapped fitted) e
+found-fitted n f fs e = of_kind-map fitted fit_kind kind_of kind_fitted n.kind n.number fs ∙ ap (option_map fitted) e
 
 module _ {fits : List Fit} {calls : List Call} {l : Lent} {ks : List Kind} {l' : Lent} {numbers : List (Result ℕ Fault)} {answers : List (Result Answer Fault)} (r : Ran fits calls l ks l' numbers answers) where
   pub ends_alone : (n : DecoderName) (f : Fit) → fit_of n (accepted l fits) ≡ Some f → decoder_of n (decoders ks l') ≡ Some (alone_after n f calls)

@@ -1,5 +1,6 @@
 -- The one of a kind that has a number.
-use Rattle.std.proofs.Common.{◌≡◌, ℕ, zero, suc, Bool, true, false, cond, ◌≢◌, List, [], ◌∷◌, ◌++◌, map, Some, None, Option, sym, refl, ap, ◌∙◌, ⊎_elim, arith}
+use Rattle.std.proofs.Common.{◌≡◌, ℕ, zero, suc, Bool, true, false, cond, ◌≢◌, List, [], ◌∷◌, ◌++◌, map, Some, option_map, sym, refl, ap, ◌∙◌, ⊎_elim, true≢false}
+use Rattle.std.proofs.lemmas.Option.{none-some}
 use Rattle.std.proofs.lemmas.Bool.{cases_Bool, cases_eq, eq-eqb, ne_eqb}
 use Rattle.bank.specs.declared.kind.Kind.{Kind}
 use Rattle.bank.specs.declared.kind.Kind.TheVariants.{Mobile, Basic, Extended}
@@ -8,29 +9,25 @@ use Rattle.script.specs.declared.name.DecoderName.{DecoderName}
 use Rattle.script.specs.Decoders.{Decoder, kind_of, of_kind, changed}
 use Rattle.script.specs.Promises.{is_named}
 
-abbrev pub mapped : {X Y : Type 0} → (X → Y) → Option X → Option Y
-mapped f None = None
-mapped f (Some x) = Some (f x)
-
 -- a fact of a test, by what it comes to
 pub both : (P : Bool → Type 0) (b : Bool) → (b ≡ true → P true) → (b ≡ false → P false) → P b
 both P true t f = t refl
 both P false t f = f refl
 
 module _ {X Y : Type 0} (f : X → Y) (kx : X → Kind) (ky : Y → Kind) (same : (x : X) → ky (f x) ≡ kx x) (k : Kind) where
-  pub of_kind-map : (j : ℕ) (xs : List X) → of_kind ky k j (map f xs) ≡ mapped f (of_kind kx k j xs)
+  pub of_kind-map : (j : ℕ) (xs : List X) → of_kind ky k j (map f xs) ≡ option_map f (of_kind kx k j xs)
   of_kind-map j [] = refl
   of_kind-map zero (x ∷ xs) =
       ap (λ b. cond (same_kind k b) (Some (f x)) (of_kind ky k zero (map f xs))) (same x)
-      ∙ both (λ b. cond b (Some (f x)) (of_kind ky k zero (map f xs)) ≡ mapped f (cond b (Some x) (of_kind kx k zero xs))) (same_kind k (kx x)) (λ e. refl) (λ e. of_kind-map zero xs)
+      ∙ both (λ b. cond b (Some (f x)) (of_kind ky k zero (map f xs)) ≡ option_map f (cond b (Some x) (of_kind kx k zero xs))) (same_kind k (kx x)) (λ e. refl) (λ e. of_kind-map zero xs)
   of_kind-map (suc j) (x ∷ xs) =
       ap (λ b. cond (same_kind k b) (of_kind ky k j (map f xs)) (of_kind ky k (suc j) (map f xs))) (same x)
-      ∙ both (λ b. cond b (of_kind ky k j (map f xs)) (of_kind ky k (suc j) (map f xs)) ≡ mapped f (cond b (of_kind kx k j xs) (of_kind kx k (suc j) xs))) (same_kind k (kx x)) (λ e. of_kind-map j xs) (λ e. of_kind-map (suc j) xs)
+      ∙ both (λ b. cond b (of_kind ky k j (map f xs)) (of_kind ky k (suc j) (map f xs)) ≡ option_map f (cond b (of_kind kx k j xs) (of_kind kx k (suc j) xs))) (same_kind k (kx x)) (λ e. of_kind-map j xs) (λ e. of_kind-map (suc j) xs)
 
 -- what stands behind does not count
 module _ {X : Type 0} (kind : X → Kind) (k : Kind) (x : X) (ys : List X) where
   pub of_kind_more : (j : ℕ) (xs : List X) → of_kind kind k j xs ≡ Some x → of_kind kind k j (xs ++ ys) ≡ Some x
-  of_kind_more j [] e = let z : ◌≡◌ {A = ℕ} 0 1 = cc in absurd (omega arith)
+  of_kind_more j [] e = absurd (none-some x e)
   of_kind_more zero (y ∷ xs) e =
       both (λ b. cond b (Some y) (of_kind kind k zero xs) ≡ Some x → cond b (Some y) (of_kind kind k zero (xs ++ ys)) ≡ Some x) (same_kind k (kind y)) (λ _ e. e) (λ _. of_kind_more zero xs) e
   of_kind_more (suc j) (y ∷ xs) e =
@@ -40,13 +37,13 @@ module _ {X : Type 0} (kind : X → Kind) (k : Kind) (x : X) (ys : List X) where
 
 pub same_is : (a b : Kind) → same_kind a b ≡ true → a ≡ b
 same_is Mobile Mobile e = refl
-same_is Mobile Basic e = let z : ◌≡◌ {A = ℕ} 0 1 = cc in absurd (omega arith)
-same_is Mobile Extended e = let z : ◌≡◌ {A = ℕ} 0 1 = cc in absurd (omega arith)
-same_is Basic Mobile e = let z : ◌≡◌ {A = ℕ} 0 1 = cc in absurd (omega arith)
+same_is Mobile Basic e = absurd (true≢false (sym e))
+same_is Mobile Extended e = absurd (true≢false (sym e))
+same_is Basic Mobile e = absurd (true≢false (sym e))
 same_is Basic Basic e = refl
-same_is Basic Extended e = let z : ◌≡◌ {A = ℕ} 0 1 = cc in absurd (omega arith)
-same_is Extended Mobile e = let z : ◌≡◌ {A = ℕ} 0 1 = cc in absurd (omega arith)
-same_is Extended Basic e = let z : ◌≡◌ {A = ℕ} 0 1 = cc in absurd (omega arith)
+same_is Basic Extended e = absurd (true≢false (sym e))
+same_is Extended Mobile e = absurd (true≢false (sym e))
+same_is Extended Basic e = absurd (true≢false (sym e))
 same_is Extended Extended e = refl
 
 pub same_self : (a : Kind) → same_kind a a ≡ true
@@ -58,14 +55,14 @@ same_self Extended = refl
 
 module _ (g : Decoder → Decoder) (keeps : (d : Decoder) → kind_of (g d) ≡ kind_of d) where
   -- it is seen under its name
-  pub changed_here : (k : Kind) (j : ℕ) (ds : List Decoder) → of_kind kind_of k j (changed g k j ds) ≡ mapped g (of_kind kind_of k j ds)
+  pub changed_here : (k : Kind) (j : ℕ) (ds : List Decoder) → of_kind kind_of k j (changed g k j ds) ≡ option_map g (of_kind kind_of k j ds)
   changed_here k j [] = refl
   changed_here k zero (d ∷ ds) =
-      both (λ b. of_kind kind_of k zero (cond b (g d ∷ ds) (d ∷ changed g k zero ds)) ≡ mapped g (cond b (Some d) (of_kind kind_of k zero ds))) (same_kind k (kind_of d))
+      both (λ b. of_kind kind_of k zero (cond b (g d ∷ ds) (d ∷ changed g k zero ds)) ≡ option_map g (cond b (Some d) (of_kind kind_of k zero ds))) (same_kind k (kind_of d))
       (λ e. rw (keeps d, e) refl)
       (λ e. rw e (changed_here k zero ds))
   changed_here k (suc j) (d ∷ ds) =
-      both (λ b. of_kind kind_of k (suc j) (cond b (d ∷ changed g k j ds) (d ∷ changed g k (suc j) ds)) ≡ mapped g (cond b (of_kind kind_of k j ds) (of_kind kind_of k (suc j) ds))) (same_kind k (kind_of d))
+      both (λ b. of_kind kind_of k (suc j) (cond b (d ∷ changed g k j ds) (d ∷ changed g k (suc j) ds)) ≡ option_map g (cond b (of_kind kind_of k j ds) (of_kind kind_of k (suc j) ds))) (same_kind k (kind_of d))
       (λ e. rw e (changed_here k j ds))
       (λ e. rw e (changed_here k (suc j) ds))
 
@@ -111,15 +108,15 @@ module _ (g : Decoder → Decoder) (keeps : (d : Decoder) → kind_of (g d) ≡ 
         (λ e. rw (other_kind (suc i) j ds, other_kind (suc i) (suc j) ds) refl)
 
   -- under the name n after a change under the name m
-  pub changed_under : (n m : DecoderName) (ds : List Decoder) → of_kind kind_of n.kind n.number (changed g m.kind m.number ds) ≡ cond (is_named n m) (mapped g (of_kind kind_of n.kind n.number ds)) (of_kind kind_of n.kind n.number ds)
+  pub changed_under : (n m : DecoderName) (ds : List Decoder) → of_kind kind_of n.kind n.number (changed g m.kind m.number ds) ≡ cond (is_named n m) (option_map g (of_kind kind_of n.kind n.number ds)) (of_kind kind_of n.kind n.number ds)
   changed_under n m ds = ⊎_elim same apart (cases_Bool (same_kind n.kind m.kind))
     where
-      same : same_kind n.kind m.kind ≡ true → of_kind kind_of n.kind n.number (changed g m.kind m.number ds) ≡ cond (is_named n m) (mapped g (of_kind kind_of n.kind n.number ds)) (of_kind kind_of n.kind n.number ds)
+      same : same_kind n.kind m.kind ≡ true → of_kind kind_of n.kind n.number (changed g m.kind m.number ds) ≡ cond (is_named n m) (option_map g (of_kind kind_of n.kind n.number ds)) (of_kind kind_of n.kind n.number ds)
       same e =
           ⊎_elim
           (λ q. rw (e, eq-eqb n.number m.number q) (rw (← same_is n.kind m.kind e, ← q) (changed_here n.kind n.number ds)))
           (λ ne. rw (e, ne_eqb n.number m.number ne) (rw (← same_is n.kind m.kind e) (other_number n.kind m.number n.number ds (λ q. ne (sym q)))))
           (cases_eq n.number m.number)
 
-      apart : same_kind n.kind m.kind ≡ false → of_kind kind_of n.kind n.number (changed g m.kind m.number ds) ≡ cond (is_named n m) (mapped g (of_kind kind_of n.kind n.number ds)) (of_kind kind_of n.kind n.number ds)
+      apart : same_kind n.kind m.kind ≡ false → of_kind kind_of n.kind n.number (changed g m.kind m.number ds) ≡ cond (is_named n m) (option_map g (of_kind kind_of n.kind n.number ds)) (of_kind kind_of n.kind n.number ds)
       apart e = rw e (other_kind m.kind n.kind e m.number n.number ds)

@@ -1,5 +1,6 @@
 -- The number that a fitting answers names its decoder.
-use Rattle.std.proofs.Common.{◌≡◌, ℕ, zero, suc, ◌+◌, ◌*◌, Bool, true, false, cond, ◌&&◌, ltb, leb, List, [], ◌∷◌, map, length, Some, Ok, Err, Result, sym, refl, ap, ◌∙◌, subst, arith}
+use Rattle.std.proofs.Common.{◌≡◌, ℕ, zero, suc, ◌+◌, ◌*◌, Bool, true, false, cond, ◌&&◌, ltb, leb, List, [], ◌∷◌, map, length, Some, Ok, Err, Result, sym, refl, ap, ◌∙◌, subst, is_err, true≢false}
+use Rattle.std.proofs.lemmas.Option.{none-some}
 use Rattle.std.specs.List.{slice_get}
 use Rattle.fault.specs.declared.fault.Fault.{Fault}
 use Rattle.fault.specs.declared.refusal.Refusal.TheVariants.{FittedAddress, BankFull, TooFewCells}
@@ -20,9 +21,9 @@ number_is l ks f j e = go (is_address f) (ltb (length ks) 32 && ltb (count_of ks
   where
     go : (a b c : Bool) → cond a (cond b (cond c (Ok (count_of ks (fit_kind f))) (Err (refused_by TooFewCells))) (Err (refused_by BankFull))) (Err (refused_by FittedAddress)) ≡ Ok j → count_of ks (fit_kind f) ≡ j
     go true true true e = cc
-    go true true false e = let z : ◌≡◌ {A = ℕ} 0 1 = cc in absurd (omega arith)
-    go true false c e = let z : ◌≡◌ {A = ℕ} 0 1 = cc in absurd (omega arith)
-    go false b c e = let z : ◌≡◌ {A = ℕ} 0 1 = cc in absurd (omega arith)
+    go true true false e = absurd (true≢false (ap is_err e))
+    go true false c e = absurd (true≢false (ap is_err e))
+    go false b c e = absurd (true≢false (ap is_err e))
 
 module _ (l : Lent) where
   -- later fittings leave a name as it is
@@ -36,10 +37,10 @@ module _ (l : Lent) where
 
   joined : (done : List Fit) (f : Fit) (j : ℕ) (r : Result ℕ Fault) → r ≡ fitting l (map fit_kind done) f → r ≡ Ok j → of_kind fit_kind (fit_kind f) j (joining done f r) ≡ Some f
   joined done f j (Ok i) e at = let same : i ≡ j = cc in slot_last fit_kind (fit_kind f) f (same_self (fit_kind f)) done j (number_is l (map fit_kind done) f i (sym e) ∙ same)
-  joined done f j (Err x) e at = let z : ◌≡◌ {A = ℕ} 0 1 = cc in absurd (omega arith)
+  joined done f j (Err x) e at = absurd (true≢false (ap is_err at))
 
   named-after : (done fits : List Fit) (i j : ℕ) (f : Fit) → slice_get fits i ≡ Some f → slice_get (fit_answers_after l done fits) i ≡ Some (Ok j) → of_kind fit_kind (fit_kind f) j (accepted_after l done fits) ≡ Some f
-  named-after done [] i j f at is = let z : ◌≡◌ {A = ℕ} 0 1 = cc in absurd (omega arith)
+  named-after done [] i j f at is = absurd (none-some f at)
   named-after done (g ∷ fits) zero j f at is =
       let same : g ≡ f = cc in
       let ans : fitting l (map fit_kind done) g ≡ Ok j = cc in

@@ -1,10 +1,12 @@
 -- A number within a kind, and the slot that has it.
-use Rattle.std.proofs.Common.{◌≡◌, ℕ, zero, suc, ◌+◌, ◌<◌, ◌≤◌, Bool, true, cond, List, [], ◌∷◌, ◌++◌, map, length, set, Some, None, sym, refl, ap, ◌∙◌, arith}
+use Rattle.std.proofs.Common.{◌≡◌, ℕ, zero, suc, ◌+◌, ◌<◌, ◌≤◌, true, cond, List, [], ◌∷◌, ◌++◌, map, length, set, Some, None, sym, refl, ap, ◌∙◌, arith}
+use Rattle.std.proofs.lemmas.Option.{none-some}
 use Rattle.std.proofs.lemmas.Bool.{cond-true}
 use Rattle.std.specs.List.{slice_get}
 use Rattle.bank.specs.declared.kind.Kind.{Kind}
 use Rattle.bank.specs.Kinds.{same_kind, is_kind, count_below}
 use Rattle.script.specs.Decoders.{Decoder, kind_of, of_kind, changed}
+use Rattle.bank.proofs.Counts.{count_none}
 use Rattle.script.proofs.Names.{both}
 
 module _ {X : Type 0} (kind : X → Kind) (k : Kind) where
@@ -21,14 +23,10 @@ module _ {X : Type 0} (kind : X → Kind) (k : Kind) where
   unfolding is_kind
   later_is x xs s h = h
 
-  none_below : (h : ℕ → Bool) → count_below h 0 ≡ 0
-  unfolding count_below
-  none_below h = refl
-
   pub slot_found : (xs : List X) (s j : ℕ) → s < length xs → is_kind (map kind xs) k s ≡ true → count_below (is_kind (map kind xs) k) s ≡ j → of_kind kind k j xs ≡ slice_get xs s
   slot_found [] s j l h e = absurd (omega arith)
   slot_found (x ∷ xs) zero zero l h e = cond-true _ _ _ (first_is x xs h)
-  slot_found (x ∷ xs) zero (suc j) l h e = let z = none_below (is_kind (map kind (x ∷ xs)) k) in absurd (omega arith)
+  slot_found (x ∷ xs) zero (suc j) l h e = let z = count_none (is_kind (map kind (x ∷ xs)) k) in absurd (omega arith)
   slot_found (x ∷ xs) (suc s) zero l h e =
       both (λ b. cond b 1 0 + count_below (is_kind (map kind xs) k) s ≡ zero → cond b (Some x) (of_kind kind k zero xs) ≡ slice_get xs s) (same_kind k (kind x))
       (λ _ q. absurd (omega arith))
@@ -56,7 +54,7 @@ module _ {X : Type 0} (kind : X → Kind) (k : Kind) where
   -- one more of the kind at the end
   pub slot_last : (x : X) → same_kind k (kind x) ≡ true → (xs : List X) (j : ℕ) → count_below (is_kind (map kind xs) k) (length (map kind xs)) ≡ j → of_kind kind k j (xs ++ x ∷ []) ≡ Some x
   slot_last x is [] zero e = cond-true _ _ _ is
-  slot_last x is [] (suc j) e = let z = none_below (is_kind (map kind []) k) in absurd (omega arith)
+  slot_last x is [] (suc j) e = let z = count_none (is_kind (map kind []) k) in absurd (omega arith)
   slot_last x is (y ∷ xs) zero e =
       both (λ b. cond b 1 0 + count_below (is_kind (map kind xs) k) (length (map kind xs)) ≡ zero → cond b (Some y) (of_kind kind k zero (xs ++ x ∷ [])) ≡ Some x) (same_kind k (kind y))
       (λ _ q. absurd (omega arith))
@@ -73,7 +71,7 @@ module _ (g : Decoder → Decoder) (k : Kind) where
   pub changed_at : (ds : List Decoder) (d : Decoder) (s j : ℕ) → s < length ds → is_kind (map kind_of ds) k s ≡ true → count_below (is_kind (map kind_of ds) k) s ≡ j → slice_get ds s ≡ Some d → changed g k j ds ≡ set ds s (g d)
   changed_at [] d s j l h e at = absurd (omega arith)
   changed_at (x ∷ xs) d zero zero l h e at = let is : x ≡ d = cc in cond-true _ _ _ (first_is kind_of k x xs h) ∙ ap (λ d. g d ∷ xs) is
-  changed_at (x ∷ xs) d zero (suc j) l h e at = let z = none_below kind_of k (is_kind (map kind_of (x ∷ xs)) k) in absurd (omega arith)
+  changed_at (x ∷ xs) d zero (suc j) l h e at = let z = count_none (is_kind (map kind_of (x ∷ xs)) k) in absurd (omega arith)
   changed_at (x ∷ xs) d (suc s) zero l h e at =
       both (λ b. cond b 1 0 + count_below (is_kind (map kind_of xs) k) s ≡ zero → cond b (g x ∷ xs) (x ∷ changed g k zero xs) ≡ x ∷ set xs s (g d)) (same_kind k (kind_of x))
       (λ _ q. absurd (omega arith))
@@ -90,7 +88,7 @@ module _ (g : Decoder → Decoder) (k : Kind) where
   changed_missing [] j e = refl
   changed_missing (x ∷ xs) zero e =
       both (λ b. cond b (Some x) (of_kind kind_of k zero xs) ≡ None → cond b (g x ∷ xs) (x ∷ changed g k zero xs) ≡ x ∷ xs) (same_kind k (kind_of x))
-      (λ _ q. let z : ◌≡◌ {A = ℕ} 0 1 = cc in absurd (omega arith))
+      (λ _ q. absurd (none-some x (sym q)))
       (λ _ q. ap (λ xs. x ∷ xs) (changed_missing xs zero q)) e
   changed_missing (x ∷ xs) (suc j) e =
       both (λ b. cond b (of_kind kind_of k j xs) (of_kind kind_of k (suc j) xs) ≡ None → cond b (x ∷ changed g k j xs) (x ∷ changed g k (suc j) xs) ≡ x ∷ xs) (same_kind k (kind_of x))

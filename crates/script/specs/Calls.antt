@@ -4,7 +4,8 @@ use Rattle.fault.specs.declared.fault.Fault.{Fault}
 use Rattle.fault.specs.declared.refusal.Refusal.{Refusal}
 use Rattle.fault.specs.declared.refusal.Refusal.TheVariants.{BlockLength, NoSuchDecoder, LentTooShort}
 use Rattle.format.specs.Reading.{Told, packet_read}
-use Rattle.block.specs.Contents.{Thing, fault_at, is_block_length}
+use Rattle.fault.specs.Places.{fault_at}
+use Rattle.block.specs.Contents.{Thing, is_block_length}
 use Rattle.block.specs.Contents.Thing.{fill, power_up, packet}
 use Rattle.block.specs.Reading.{reading, carried, fault_of}
 use Rattle.decoder.specs.Alone.{Event}

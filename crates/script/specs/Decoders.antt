@@ -5,14 +5,14 @@ use Rattle.std.proofs.lemmas.Nat.{mod_below}
 use Rattle.fault.specs.declared.fault.Fault.{Fault}
 use Rattle.fault.specs.declared.refusal.Refusal.{Refusal}
 use Rattle.fault.specs.declared.refusal.Refusal.TheVariants.{NoSuchDecoder, NumberOutOfRange}
+use Rattle.fault.specs.Places.{nowhere}
 use Rattle.packet.specs.declared.cv.CvNumber.{CvNumber}
 use Rattle.packet.specs.Wires.{number_of}
 use Rattle.format.specs.Reading.{packet_read}
 use Rattle.state.specs.Groups.{function_at}
 use Rattle.state.specs.Kept.{state_at}
 use Rattle.decoder.specs.declared.records.Mobile as mobile-record
-use Rattle.decoder.specs.declared.records.Basic as basic-record
-use Rattle.decoder.specs.declared.records.Extended as extended-record
+use Rattle.decoder.specs.Fresh as accessory-record
 use Rattle.decoder.specs.Alone.{Own, Event, variable, hearing, life, mobile_rules, basic_rules, extended_rules}
 use Rattle.decoder.specs.Alone.Event.{setting}
 use Rattle.bank.specs.declared.kind.Kind.{Kind}
@@ -28,13 +28,24 @@ use Rattle.script.specs.declared.answer.Answer.TheVariants as answer
 
 pub data Decoder : Type 0 where
   mobile : Own mobile-record.Mobile → Decoder
-  basic : Own basic-record.Basic → Decoder
-  extended : Own extended-record.Extended → Decoder
+  basic : Own accessory-record.Basic → Decoder
+  extended : Own accessory-record.Extended → Decoder
 
 abbrev pub kind_of : Decoder → Kind
 kind_of (mobile o) = kind.Mobile
 kind_of (basic o) = kind.Basic
 kind_of (extended o) = kind.Extended
+
+-- the records of a kind, and the decoder of that kind that has one of them
+abbrev pub RecordOf : Kind → Type 0
+RecordOf kind.Mobile = mobile-record.Mobile
+RecordOf kind.Basic = accessory-record.Basic
+RecordOf kind.Extended = accessory-record.Extended
+
+abbrev pub decoder_as : (k : Kind) → Own (RecordOf k) → Decoder
+decoder_as kind.Mobile o = mobile o
+decoder_as kind.Basic o = basic o
+decoder_as kind.Extended o = extended o
 
 -- what events make of it, by the rules of its kind
 unfoldable pub lives : Decoder → List Event → Decoder
@@ -81,7 +92,7 @@ changed f k (suc j) (d ∷ ds) = cond (same_kind k (kind_of d)) (d ∷ changed f
 
 -- a refusal of the board
 abbrev pub refused_by : Refusal → Fault
-refused_by r = record { refusal = r; offset = 0 }
+refused_by r = nowhere r
 
 -- variables have the numbers 1 to 1024
 abbrev pub is_variable : ℕ → Bool

@@ -1,3 +1,4 @@
 pub mod Bitwise
 pub mod Tables
 pub mod Lows
+pub mod Eights

@@ -1,9 +1,8 @@
 -- The volatile parts as the power comes up.
-use Rattle.std.specs.Prelude.{true, false, replicate, None}
+use Rattle.std.specs.Prelude.{ℕ, Bool, true, false, List, replicate, None}
 use Rattle.state.specs.declared.speed.Speed.TheVariants.{Stop}
 use Rattle.state.specs.declared.volatile.MobileState.{MobileState}
-use Rattle.state.specs.declared.volatile.BasicState.{BasicState}
-use Rattle.state.specs.declared.volatile.ExtendedState.{ExtendedState}
+use Rattle.state.specs.declared.volatile.AccessoryState.{AccessoryState}
 
 -- stopped, forward, all off, nothing waiting, no reply
 abbrev pub mobile_start : MobileState
@@ -17,8 +16,8 @@ mobile_start =
       reply = None;
     }
 
-abbrev pub basic_start : BasicState
-basic_start = record { outputs = replicate 8 false; waiting = None; reply = None }
+abbrev pub basic_start : AccessoryState (List Bool)
+basic_start = record { shown = replicate 8 false; waiting = None; reply = None }
 
-abbrev pub extended_start : ExtendedState
-extended_start = record { aspect = 0; waiting = None; reply = None }
+abbrev pub extended_start : AccessoryState ℕ
+extended_start = record { shown = 0; waiting = None; reply = None }

@@ -9,6 +9,7 @@ pub fn has_bit(byte: u8, bit: u8) -> bool
 }
 
 /// The byte with that bit set or cleared.
+#[tactic(auto, using(crate::proofs::Tables::or_bit, crate::proofs::Tables::and_bit))]
 pub fn with_bit(byte: u8, bit: u8, on: bool) -> u8
     ensures { result ≡ with_bit byte (bit % 8) on }
 {

@@ -30,25 +30,20 @@ impl Functions {
     }
 
     /// Switches each function of a group by its bit. FL is switched only where `light` says so.
+    #[tactic(auto, using(crate::proofs::Eights::eight))]
     pub fn switch(&mut self, group: FunctionGroup, bits: u8, light: bool)
         ensures { self.new.on ≡ switched self.old.on group bits light }
     {
+        let lowest = group.lowest();
         match group {
             FunctionGroup::F0ToF4 => {
-                self.put::<4>(1, bits);
+                self.put::<4>(lowest, bits);
                 if light {
                     self.put_light(bits);
                 }
             }
-            FunctionGroup::F5ToF8 => self.put::<4>(5, bits),
-            FunctionGroup::F9ToF12 => self.put::<4>(9, bits),
-            FunctionGroup::F13ToF20 => self.put::<8>(13, bits),
-            FunctionGroup::F21ToF28 => self.put::<8>(21, bits),
-            FunctionGroup::F29ToF36 => self.put::<8>(29, bits),
-            FunctionGroup::F37ToF44 => self.put::<8>(37, bits),
-            FunctionGroup::F45ToF52 => self.put::<8>(45, bits),
-            FunctionGroup::F53ToF60 => self.put::<8>(53, bits),
-            FunctionGroup::F61ToF68 => self.put::<8>(61, bits),
+            FunctionGroup::F5ToF8 | FunctionGroup::F9ToF12 => self.put::<4>(lowest, bits),
+            _ => self.put::<8>(lowest, bits),
         }
     }
 

@@ -1,4 +1,5 @@
-//! What a decoder holds while it has power: speed, functions, binary states, outputs, aspect, a waiting write and the latest reply.
+//! What a decoder holds while it has power: speed, functions, binary states, outputs, aspect, a waiting write and the
+//! latest reply.
 
 #![tactic(auto)]
 
@@ -22,5 +23,5 @@ pub use crate::scale::Scale;
 pub use crate::speed::Speed;
 pub use crate::states::BinaryStates;
 pub use crate::step::Step;
-pub use crate::volatile::{BasicState, ExtendedState, MobileState, Reply};
+pub use crate::volatile::{AccessoryState, BasicState, ExtendedState, MobileState, Reply};
 pub use crate::waiting::WaitingWrite;

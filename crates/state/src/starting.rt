@@ -4,8 +4,9 @@ ghost use Rattle.state.specs.Starting.{mobile_start, basic_start, extended_start
 use crate::functions::Functions;
 use crate::speed::Speed;
 use crate::states::BinaryStates;
-use crate::volatile::{BasicState, ExtendedState, MobileState};
+use crate::volatile::{AccessoryState, BasicState, ExtendedState, MobileState};
 
+// No `Default`: a mobile decoder begins forward.
 impl MobileState {
     /// As the power comes up.
     pub fn new() -> MobileState
@@ -22,13 +23,16 @@ impl MobileState {
     }
 }
 
+// One `new` over `Default` would promise that what is shown is a default, and not which outputs and which aspect
+// these are.
+
 impl BasicState {
     /// As the power comes up.
     pub fn new() -> BasicState
         ensures { result ≡ basic_start }
     {
-        BasicState {
-            outputs: [false; 8],
+        AccessoryState {
+            shown: [false; 8],
             waiting: None,
             reply: None,
         }
@@ -40,8 +44,8 @@ impl ExtendedState {
     pub fn new() -> ExtendedState
         ensures { result ≡ extended_start }
     {
-        ExtendedState {
-            aspect: 0,
+        AccessoryState {
+            shown: 0,
             waiting: None,
             reply: None,
         }

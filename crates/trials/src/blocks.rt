@@ -19,10 +19,6 @@ fn surveyed(
     assert_eq!(rt; survey(block), Ok(expected));
 }
 
-fn fault_at(refusal: Refusal, offset: usize) -> Option<Fault> {
-    Some(Fault { refusal, offset })
-}
-
 #[test]
 fn fill_carries_nothing(rt: HostRuntime) {
     surveyed(&rt, &[0, 0, 0], 0, 0, 0, None);
@@ -33,23 +29,16 @@ fn fill_carries_nothing(rt: HostRuntime) {
 fn records_are_counted_up_to_the_fault(rt: HostRuntime) {
     surveyed(&rt, &[3, 0, 0, 0], 1, 0, 4, None);
     surveyed(&rt, &[0x10, 3, 0, 0, 0, 0x10, 0, 0], 1, 2, 6, None);
-    surveyed(&rt, &[2], 0, 0, 0, fault_at(Refusal::UnknownKind, 0));
-    surveyed(
-        &rt,
-        &[3, 3, 0x74],
-        0,
-        0,
-        0,
-        fault_at(Refusal::BodyCutOff, 0),
-    );
-    surveyed(&rt, &[0, 1], 0, 0, 0, fault_at(Refusal::NonzeroFill, 1));
+    surveyed(&rt, &[2], 0, 0, 0, Some(Refusal::UnknownKind.at(0)));
+    surveyed(&rt, &[3, 3, 0x74], 0, 0, 0, Some(Refusal::BodyCutOff.at(0)));
+    surveyed(&rt, &[0, 1], 0, 0, 0, Some(Refusal::NonzeroFill.at(1)));
     surveyed(
         &rt,
         &[0x10, 0, 0, 0, 5, 6],
         0,
         1,
         1,
-        fault_at(Refusal::NonzeroFill, 4),
+        Some(Refusal::NonzeroFill.at(4)),
     );
     surveyed(
         &rt,
@@ -57,16 +46,13 @@ fn records_are_counted_up_to_the_fault(rt: HostRuntime) {
         0,
         2,
         2,
-        fault_at(Refusal::UnknownKind, 2),
+        Some(Refusal::UnknownKind.at(2)),
     );
 }
 
 #[test]
 fn length_is_refused(rt: HostRuntime) {
-    let refused = Fault {
-        refusal: Refusal::BlockLength,
-        offset: 0,
-    };
+    let refused = Refusal::BlockLength.into();
     assert_eq!(rt; survey(&[]), Err(refused));
     assert_eq!(rt; survey(&[0; 513]), Err(refused));
 }
@@ -77,10 +63,7 @@ fn handed_out<'a>(rt: &impl Abort, block: &'a [u8], n: usize, expected: &'a [u8]
 
 /// The refusal of a number that no packet of the block has.
 fn not_there(rt: &impl Abort, block: &[u8], n: usize) {
-    let missing = Fault {
-        refusal: Refusal::NumberOutOfRange,
-        offset: 0,
-    };
+    let missing = Refusal::NumberOutOfRange.into();
     assert_eq!(rt; packet_at(block, n), Err(missing));
 }
 

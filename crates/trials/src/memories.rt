@@ -2,11 +2,9 @@ use fault::{Fault, Refusal};
 use memory::{ByteMemory, Memory, Strip, WordMemory};
 use std::process::Abort;
 
+/// The refusal of a cell.
 fn beyond(cell: usize) -> Fault {
-    Fault {
-        refusal: Refusal::CellOutOfRange,
-        offset: cell,
-    }
+    Refusal::CellOutOfRange.at(cell)
 }
 
 /// Writes 1, 2, 3, .. to all cells and finds them there; the cell at the count is refused.

@@ -1,5 +1,5 @@
 use fault::Refusal;
-use packet::{CvNumber, FunctionGroup, Instruction, Target};
+use packet::{CvNumber, FunctionGroup, Instruction, Packet, Target};
 use std::process::Abort;
 use std::test::Fail;
 use writer::write;
@@ -8,7 +8,13 @@ use writer::write;
 fn refused(rt: &impl Abort, target: Target, instruction: Instruction) {
     let mut place = [9u8; 6];
     assert_eq!(rt;
-        write(target, instruction, &mut place),
+        write(
+            Packet {
+                target,
+                instruction
+            },
+            &mut place
+        ),
         Err(Refusal::FieldOutOfRange)
     );
     assert_eq!(rt; place, [9; 6]);
@@ -126,25 +132,26 @@ fn instructions_have_their_targets(rt: HostRuntime) {
 
 #[test]
 fn the_place_keeps_its_rest(rt: HostRuntime) -> Result<(), Fail> {
-    let loco = Target::Long { address: 1000 };
     let cv = CvNumber::new(29).ok_or("no such variable")?;
+    let setting = Packet {
+        target: Target::Long { address: 1000 },
+        instruction: Instruction::WriteByte { cv, value: 6 },
+    };
     let mut place = [9u8; 8];
-    assert_eq!(rt;
-        write(loco, Instruction::WriteByte { cv, value: 6 }, &mut place),
-        Ok(6)
-    );
+    assert_eq!(rt; write(setting, &mut place), Ok(6));
     assert_eq!(rt; place, [0xc3, 0xe8, 0xec, 0x1c, 0x06, 0xdd, 9, 9]);
+    let reset = Packet {
+        instruction: Instruction::Reset,
+        ..setting
+    };
     let mut short = [9u8; 3];
-    assert_eq!(rt;
-        write(loco, Instruction::Reset, &mut short),
-        Err(Refusal::PlaceTooShort)
-    );
+    assert_eq!(rt; write(reset, &mut short), Err(Refusal::PlaceTooShort));
     assert_eq!(rt; short, [9; 3]);
-    let outside = Target::Short { address: 0 };
-    assert_eq!(rt;
-        write(outside, Instruction::Reset, &mut []),
-        Err(Refusal::FieldOutOfRange)
-    );
+    let outside = Packet {
+        target: Target::Short { address: 0 },
+        ..reset
+    };
+    assert_eq!(rt; write(outside, &mut []), Err(Refusal::FieldOutOfRange));
     Ok(())
 }
 

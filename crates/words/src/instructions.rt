@@ -2,42 +2,20 @@ use crate::lists::NumbersOn;
 use crate::switches::{direction, switched};
 use crate::wrapper::InWords;
 use packet::{FunctionGroup, Instruction};
-use std::ops::RangeInclusive;
+use state::{Scale, Speed, has_bit};
 use std::{array, fmt};
 
-fn span(group: FunctionGroup) -> RangeInclusive<u8> {
-    match group {
-        FunctionGroup::F0ToF4 => 0..=4,
-        FunctionGroup::F5ToF8 => 5..=8,
-        FunctionGroup::F9ToF12 => 9..=12,
-        FunctionGroup::F13ToF20 => 13..=20,
-        FunctionGroup::F21ToF28 => 21..=28,
-        FunctionGroup::F29ToF36 => 29..=36,
-        FunctionGroup::F37ToF44 => 37..=44,
-        FunctionGroup::F45ToF52 => 45..=52,
-        FunctionGroup::F53ToF60 => 53..=60,
-        FunctionGroup::F61ToF68 => 61..=68,
-    }
-}
-
-/// A group's bits in the order of its functions. FL, which is F0, stands above F1 to F4.
-fn in_order(group: FunctionGroup, bits: u8) -> u8 {
-    match group {
-        FunctionGroup::F0ToF4 => bits % 16 * 2 + bits / 16 % 2,
-        _ => bits,
-    }
-}
-
+/// The functions that a group switches on. FL, which is F0, stands above F1 to F4 in its group's bits.
 fn functions<W: fmt::Write>(
     group: FunctionGroup,
     bits: u8,
     f: &mut fmt::Formatter<W>,
 ) -> fmt::Result {
-    let span = span(group);
-    let first = usize::from(*span.start());
-    let last = usize::from(*span.end());
-    let bits = in_order(group, bits);
-    let switches: [bool; 8] = array::from_fn(|k| first + k <= last && bits >> k & 1 == 1);
+    let (first, last, bits) = match group {
+        FunctionGroup::F0ToF4 => (0, 4, bits % 16 * 2 + u8::from(has_bit(bits, 4))),
+        _ => (group.lowest(), group.lowest() + group.width() - 1, bits),
+    };
+    let switches: [bool; 8] = array::from_fn(|k| first + k <= last && has_bit(bits, k as u8));
     let on = NumbersOn {
         first,
         switches: &switches,
@@ -49,31 +27,30 @@ fn functions<W: fmt::Write>(
 /// What a code of five bits asks in 28 steps, and in 14, where its bit 4 is FL.
 fn speed<W: fmt::Write>(forward: bool, code: u8, f: &mut fmt::Formatter<W>) -> fmt::Result {
     let way = direction(forward);
-    let extra = code / 16 % 2;
-    let light = switched(extra == 1);
-    match code % 16 {
-        0 => write!(f, "speed {way} stop, in 14 steps FL {light}"),
-        1 => write!(f, "speed {way} emergency stop, in 14 steps FL {light}"),
-        low => {
-            let of_28 = 2 * low + extra - 3;
-            let of_14 = low - 1;
-            write!(
-                f,
-                "speed {way} step {of_28} of 28, in 14 steps {of_14} and FL {light}"
-            )
-        }
+    let light = switched(has_bit(code, 4));
+    let of_28 = Speed::at(Scale::TwentyEight, code);
+    let of_14 = Speed::at(Scale::Fourteen, code);
+    match (of_28, of_14) {
+        (Speed::Running(of_28), Speed::Running(of_14)) => write!(
+            f,
+            "speed {way} step {} of 28, in 14 steps {} and FL {light}",
+            of_28.number(),
+            of_14.number()
+        ),
+        (Speed::EmergencyStop, _) => write!(
+            f,
+            "speed {way} emergency stop, in 14 steps FL {light}"
+        ),
+        _ => write!(f, "speed {way} stop, in 14 steps FL {light}"),
     }
 }
 
 fn speed126<W: fmt::Write>(forward: bool, code: u8, f: &mut fmt::Formatter<W>) -> fmt::Result {
     let way = direction(forward);
-    match code {
-        0 => write!(f, "speed {way} stop of 126"),
-        1 => write!(f, "speed {way} emergency stop of 126"),
-        above => {
-            let step = above - 1;
-            write!(f, "speed {way} step {step} of 126")
-        }
+    match Speed::at(Scale::OneTwentySix, code) {
+        Speed::Stop => write!(f, "speed {way} stop of 126"),
+        Speed::EmergencyStop => write!(f, "speed {way} emergency stop of 126"),
+        Speed::Running(step) => write!(f, "speed {way} step {} of 126", step.number()),
     }
 }
 

@@ -1,3 +1,6 @@
+ghost use Rattle.std.specs.Prelude.{◌≡◌, Some};
+ghost use Rattle.words.specs.Lists.{hex_text, numbers_on, numbers_text};
+
 use std::fmt;
 
 /// Bytes in hexadecimal, with a blank between two.
@@ -14,29 +17,50 @@ pub struct NumbersOn<'a> {
     pub none: &'a str,
 }
 
+impl<'a> NumbersOn<'a> {
+    /// Of switches that are numbered from 0.
+    pub fn from_zero(switches: &'a [bool], none: &'a str) -> NumbersOn<'a>
+        ensures first { result.first ≡ 0 }
+        ensures switches { result.switches.now ≡ switches.now }
+        ensures none { result.none.now ≡ none.now }
+    {
+        NumbersOn {
+            first: 0,
+            switches,
+            none,
+        }
+    }
+}
+
 impl fmt::Display for Hex<'_> {
+    ghost output = { λ hex. Some (hex_text hex.0.now) };
+
     fn fmt<W: fmt::Write>(&self, f: &mut fmt::Formatter<W>) -> fmt::Result {
-        let mut blank = "";
-        for byte in self.0 {
-            write!(f, "{blank}{byte:02X}")?;
-            blank = " ";
+        let [first, rest @ ..] = self.0 else {
+            return Ok(());
+        };
+        let first = *first;
+        write!(f, "{first:02X}")?;
+        for &byte in rest {
+            write!(f, " {byte:02X}")?;
         }
         Ok(())
     }
 }
 
 impl fmt::Display for NumbersOn<'_> {
+    ghost output = { λ on. Some (numbers_text on.none.now (numbers_on on.first on.switches.now)) };
+
     fn fmt<W: fmt::Write>(&self, f: &mut fmt::Formatter<W>) -> fmt::Result {
-        if !self.switches.contains(&true) {
-            return f.write_str(self.none);
-        }
-        let mut comma = "";
-        for (i, on) in self.switches.iter().enumerate() {
+        let mut separator = "";
+        for (number, on) in (self.first..usize::MAX).zip(self.switches) {
             if *on {
-                let number = self.first.saturating_add(i);
-                write!(f, "{comma}{number}")?;
-                comma = ",";
+                write!(f, "{separator}{number}")?;
+                separator = ",";
             }
+        }
+        if separator.is_empty() {
+            f.write_str(self.none)?;
         }
         Ok(())
     }

@@ -4,7 +4,7 @@ ghost use Rattle.writer.specs.Contents.{listed};
 
 use crate::bytes::{Bytes, bytes};
 use fault::Refusal;
-use packet::{CvNumber, FunctionGroup, Instruction, Target, WireAddress};
+use packet::{CvNumber, FunctionGroup, Instruction, Packet, Target, WireAddress};
 
 /// A bit of a byte, by its weight.
 pub(crate) fn flag(on: bool, weight: u8) -> u8
@@ -18,7 +18,7 @@ fn at_cv(first: u8, cv: CvNumber, last: u8) -> Bytes
     requires { first ≤ 0xec }
     ensures { result.items ≡ at_cv first cv last }
 {
-    let (upper, lower) = WireAddress::from(cv).to_bytes();
+    let [upper, lower] = WireAddress::from(cv).to_bytes();
     bytes([first + upper, lower, last])
 }
 
@@ -131,9 +131,13 @@ fn extended_body(instruction: Instruction) -> Result<Bytes, Refusal>
     }
 }
 
-pub(crate) fn body(target: Target, instruction: Instruction) -> Result<Bytes, Refusal>
-    ensures { listed result ≡ body_of target (form_of instruction) }
+pub(crate) fn body(packet: Packet) -> Result<Bytes, Refusal>
+    ensures { listed result ≡ body_of packet.target (form_of packet.instruction) }
 {
+    let Packet {
+        target,
+        instruction,
+    } = packet;
     match target {
         Target::Idle => idle_body(instruction),
         Target::Broadcast | Target::Short { .. } | Target::Long { .. } => mobile_body(instruction),

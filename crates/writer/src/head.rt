@@ -5,7 +5,7 @@ ghost use Rattle.writer.specs.Contents.{listed};
 use crate::body::flag;
 use crate::bytes::{Bytes, bytes};
 use fault::Refusal;
-use packet::{Instruction, Target};
+use packet::{Instruction, Packet, Target};
 
 /// The low four bits of a basic head: the output that is set, or zero.
 fn output_bits(instruction: Instruction) -> u8
@@ -17,10 +17,10 @@ fn output_bits(instruction: Instruction) -> u8
     }
 }
 
-pub(crate) fn head(target: Target, instruction: Instruction) -> Result<Bytes, Refusal>
-    ensures { listed result ≡ head_of target (form_of instruction) }
+pub(crate) fn head(packet: Packet) -> Result<Bytes, Refusal>
+    ensures { listed result ≡ head_of packet.target (form_of packet.instruction) }
 {
-    match target {
+    match packet.target {
         Target::Idle => Ok(bytes([0xff, 0x00])),
         Target::Broadcast => Ok(bytes([0x00])),
         Target::Short { address } if (1..128).contains(&address) => Ok(bytes([address])),
@@ -30,7 +30,7 @@ pub(crate) fn head(target: Target, instruction: Instruction) -> Result<Bytes, Re
         }
         Target::Basic { address } if address < 512 => Ok(bytes([
             0x80 + (address % 64) as u8,
-            0x80 + 16 * (7 - address / 64) as u8 + output_bits(instruction),
+            0x80 + 16 * (7 - address / 64) as u8 + output_bits(packet.instruction),
         ])),
         Target::Extended { address } if address < 2048 => Ok(bytes([
             0x80 + (address / 4 % 64) as u8,

@@ -7,7 +7,7 @@ use crate::body::body;
 use crate::bytes::Bytes;
 use crate::head::head;
 use fault::Refusal;
-use packet::{Instruction, Target, parity};
+use packet::{Packet, parity};
 
 /// Puts both parts and the error byte at the front of the place.
 fn put(head: &[u8], body: &[u8], place: &mut [u8])
@@ -22,6 +22,7 @@ fn put(head: &[u8], body: &[u8], place: &mut [u8])
 }
 
 /// Both parts and the error byte, if the place has room.
+// `answered` and `placed` stay two clauses, as the answer and the place are two things that a caller looks up.
 fn place_parts(head: &Bytes, body: &Bytes, place: &mut [u8]) -> Result<usize, Refusal>
     ensures answered { result ≡ answer (Ok (sealed (head.now.items ++ body.now.items))) place.old }
     ensures placed { place.new ≡ after (Ok (sealed (head.now.items ++ body.now.items))) place.old }
@@ -35,21 +36,21 @@ fn place_parts(head: &Bytes, body: &Bytes, place: &mut [u8]) -> Result<usize, Re
 }
 
 #[tactic(auto, unfolding(format::specs::Writing::encoded))]
-fn encode(target: Target, instruction: Instruction, place: &mut [u8]) -> Result<usize, Refusal>
-    ensures answered { result ≡ answer (encoded target instruction) place.old }
-    ensures placed { place.new ≡ after (encoded target instruction) place.old }
+fn encode(packet: Packet, place: &mut [u8]) -> Result<usize, Refusal>
+    ensures answered { result ≡ answer (encoded packet.target packet.instruction) place.old }
+    ensures placed { place.new ≡ after (encoded packet.target packet.instruction) place.old }
 {
-    let head = head(target, instruction)?;
-    let body = body(target, instruction)?;
+    let head = head(packet)?;
+    let body = body(packet)?;
     place_parts(&head, &body, place)
 }
 
 /// Puts the packet at the front of the place and answers its length; the rest of the place stays. A refusal leaves all
 /// of it. What is written reads as itself.
-pub fn write(target: Target, instruction: Instruction, place: &mut [u8]) -> Result<usize, Refusal>
-    ensures answered { result ≡ answer (encoded target instruction) place.old }
-    ensures placed { place.new ≡ after (encoded target instruction) place.old }
-    ensures reads_back { ReadsBack target instruction result place.new }
+pub fn write(packet: Packet, place: &mut [u8]) -> Result<usize, Refusal>
+    ensures answered { result ≡ answer (encoded packet.target packet.instruction) place.old }
+    ensures placed { place.new ≡ after (encoded packet.target packet.instruction) place.old }
+    ensures reads_back { ReadsBack packet.target packet.instruction result place.new }
 {
-    encode(target, instruction, place)
+    encode(packet, place)
 }

@@ -3,6 +3,7 @@ use Rattle.bank.specs.Kinds.{is_kind}
 use Rattle.bank.proofs.Turns.{first_turned, front_changed}
 use Rattle.bank.proofs.powering.power_up.Goals as goal
 
+-- tried: `using(first_turned, front_changed)`, which is not found below the two conditions
 pub returns-clause-turned : goal.returns-clause-turned
 returns-clause-turned g c =
     let front = front_changed c.if-count-bank.false c.power_up_each.ensures in

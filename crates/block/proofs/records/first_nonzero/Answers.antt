@@ -1,13 +1,10 @@
-use Rattle.std.proofs.Common.{◌≡◌, ◌+◌, eqb, not, option_map, drop, length-drop, sym, ap, ◌∙◌, rules}
+use Rattle.std.proofs.Common.{◌≡◌, ◌+◌, eqb, not, option_map, drop, length-drop, ap, ◌∙◌, rules}
 use Rattle.std.proofs.lemmas.Iterator.{YieldsList-from_slice}
 use Rattle.std.proofs.lemmas.List.{take_all}
 use Rattle.std.proofs.lemmas.Iterator.Search.{position_from_yields_List}
 use borrow.Author.Tests.{tests}
-use Rattle.block.proofs.Fills.{nonzero_end, nonzero_position}
+use Rattle.block.proofs.Fills.{nonzero_position}
 use Rattle.block.proofs.records.first_nonzero.Goals as goal
-
-pub returns-in_err-rest : goal.returns-in_err-rest
-returns-in_err-rest c = c.from_residual.ensures ∙ sym (nonzero_end c.args.block.now c.args.offset (search rules))
 
 pub returns : goal.returns
 returns c =

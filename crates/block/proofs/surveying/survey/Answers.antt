@@ -1,53 +1,42 @@
-use Rattle.std.proofs.Common.{◌≡◌, length, Some, None, refl, sym, ap, ◌∙◌, arith}
-use Rattle.std.proofs.lemmas.Result.{err_from_is_err_and}
+use Rattle.std.proofs.Common.{◌≡◌, ℕ, ◌+◌, ◌≤◌, List, length, Some, None, Ok, Result, refl, sym, ap, ◌∙◌, arith, rules}
+use Rattle.fault.specs.declared.fault.Fault.{Fault}
+use Rattle.block.specs.declared.records.Carried.{Carried}
+use Rattle.block.specs.declared.summary.Survey.{Survey}
+use Rattle.block.specs.declared.walk.Walk.{Walk}
 use Rattle.block.specs.Contents.{thing_in}
 use Rattle.block.specs.Reading.{reading_from}
+use Rattle.block.specs.Walking.{Advances}
 use Rattle.block.proofs.Steps.{passing}
-use Rattle.block.proofs.Sums.{added, added_packet, added_power_up, added_none}
-use Rattle.block.proofs.Tilings.{survey_tells, survey_refuses}
+use Rattle.block.proofs.Sums.{Going, added, added_none}
+use Rattle.block.proofs.Tilings.{survey_tells}
 use Rattle.block.proofs.Walkings.{turn_none, turn_fault, turn}
 use Rattle.block.proofs.surveying.survey.Goals as goal
 
-pub returns-in_err-item-items : goal.returns-in_err-item-items
-returns-in_err-item-items c =
-    let b = c.args.block.now in
-    let p = err_from_is_err_and c.from_residual.result c.from_residual.ensures.1 in
-    let h = c.in_err-item-items.ensures.begins in
-    rw (p.1, p.2) (survey_refuses b c.in_err-item-items.field-0.0 h.0 h.1)
+-- the walk s, where the survey is v, goes on to t behind a record that u counts too
+kept :
+    {b : List ℕ} {v u : Survey} {s t : Walk} {x : Result Carried Fault} (d : Carried)
+    → Going b s v
+    → x ≡ Ok d
+    → Advances s (Some x) t
+    → added (length b) u (reading_from b d.next) ≡ added (length b) v (passing b v.end (thing_in d.«record») d.next)
+    → (u.end ≡ d.next) × (u.packets + u.power_ups ≤ v.packets + v.power_ups + 1) × (u.fault ≡ v.fault)
+    → Going b t u
+kept {b} {v} {u} {s} {t} {x} d i is a more h =
+    let k = turn b v.end s t i.over i.at x d is a in
+    record {
+      sums = ap (λ o. added (length b) u (reading_from b o)) h.0 ∙ more ∙ sym (ap (added (length b) v) k.reads) ∙ i.sums;
+      over = k.over;
+      at = k.at ∙ sym h.0;
+      inside = omega (arith, k.inside, h.0);
+      counted = omega (arith, k.past, h.0, h.1, i.counted);
+      sound = h.2 ∙ i.sound;
+    }
 
 pub loop-item-preserved-in-PowerUp : goal.loop-item-preserved-in-PowerUp
-loop-item-preserved-in-PowerUp c =
-    let b = c.args.block.now in
-    let v = c.loop-item.survey in
-    let i = c.loop-item.invariant in
-    let d = c.in-Ok.carried in
-    let k = turn b v.end _ _ i.over i.at _ d c.in-Ok.is c.in-Some.ensures.steps in
-    let on = k.reads ∙ ap (λ r. passing b v.end (thing_in r) d.next) c.in-PowerUp.is in
-    record {
-      sums = added_power_up (length b) v.end d.next v (reading_from b d.next) ∙ sym (ap (added (length b) v) on) ∙ i.sums;
-      over = k.over;
-      at = k.at;
-      inside = k.inside;
-      counted = omega (arith, k.past);
-      sound = i.sound;
-    }
+loop-item-preserved-in-PowerUp c = kept c.in-Ok.carried c.loop-item.invariant c.in-Ok.is c.in-Some.ensures.steps (search rules) (refl, omega arith, refl)
 
 pub loop-item-preserved : goal.loop-item-preserved
-loop-item-preserved c =
-    let b = c.args.block.now in
-    let v = c.loop-item.survey in
-    let i = c.loop-item.invariant in
-    let d = c.in-Ok.carried in
-    let k = turn b v.end _ _ i.over i.at _ d c.in-Ok.is c.in-Some.ensures.steps in
-    let on = k.reads ∙ ap (λ r. passing b v.end (thing_in r) d.next) c.in-Packet.is in
-    record {
-      sums = added_packet (length b) v.end d.next v (reading_from b d.next) c.in-Packet.field-0.now ∙ sym (ap (added (length b) v) on) ∙ i.sums;
-      over = k.over;
-      at = k.at;
-      inside = k.inside;
-      counted = omega (arith, k.past);
-      sound = i.sound;
-    }
+loop-item-preserved c = kept c.in-Ok.carried c.loop-item.invariant c.in-Ok.is c.in-Some.ensures.steps (search rules) (refl, omega arith, refl)
 
 pub returns-in-None : goal.returns-in-None
 returns-in-None c =

@@ -3,4 +3,4 @@ use Rattle.format.proofs.Placed.{placed_reads}
 use Rattle.writer.proofs.writing.write.Goals as goal
 
 pub returns-clause-reads_back : goal.returns-clause-reads_back
-returns-clause-reads_back c n e = placed_reads c.args.target c.args.instruction c.args.place.now _ n c.encode.ensures.placed (sym c.encode.ensures.answered ∙ e)
+returns-clause-reads_back c n e = placed_reads c.args.packet.target c.args.packet.instruction c.args.place.now _ n c.encode.ensures.placed (sym c.encode.ensures.answered ∙ e)

@@ -2,6 +2,7 @@ use Rattle.std.proofs.Common.{◌-◌, set, refl, ap, ◌∙◌, arith}
 use Rattle.bank.proofs.Windowed.{wrote_as}
 use Rattle.bank.proofs.window.Window.put.Goals as goal
 
+-- tried: `using(wrote_as)`; the search gives up at a limit
 pub returns : goal.returns
 returns g c =
     let self = c.args.self.now in

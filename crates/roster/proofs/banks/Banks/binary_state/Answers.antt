@@ -1,16 +1,10 @@
-use Rattle.std.proofs.Common.{sym, ap, ◌∙◌}
-use Rattle.std.proofs.lemmas.Result.{err_from_is_err_and}
 use Rattle.state.specs.Kept.{state_at}
 use Rattle.script.specs.Decoders.{in_range}
-use Rattle.roster.proofs.Askings.{is_in_range}
+use Rattle.roster.proofs.Askings.{read_in, passed_on}
 use Rattle.roster.proofs.banks.Banks.binary_state.Goals as goal
 
 pub returns-in_err-mobile : goal.returns-in_err-mobile
-returns-in_err-mobile g c =
-    let p = err_from_is_err_and c.from_residual.result c.from_residual.ensures.1 in
-    rw (p.1, p.2) (sym (c.in_err-mobile.ensures (λ x. in_range (state_at x.state.states.bits c.args.number))))
+returns-in_err-mobile g c = passed_on c.from_residual.ensures.1 (c.in_err-mobile.ensures (λ x. in_range (state_at x.state.states.bits c.args.number)))
 
 pub returns : goal.returns
-returns g c =
-    c.ok_or.ensures.value ∙ is_in_range _ _ c.into.ensures ∙ ap in_range c.get.ensures
-    ∙ sym (c.in_ok-mobile.ensures (λ x. in_range (state_at x.state.states.bits c.args.number)))
+returns g c = read_in _ c.ok_or.ensures.value c.into.ensures c.get.ensures (c.in_ok-mobile.ensures (λ x. in_range (state_at x.state.states.bits c.args.number)))
