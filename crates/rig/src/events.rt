@@ -12,6 +12,8 @@ use std::alloc::Global;
 /// How many cells a decoder owns.
 const WINDOW: usize = 1024;
 
+// Board, banks and memory stay apart, as the board's calls take them: a struct of the three would be taken apart at each.
+
 /// Performs one record, given as a block of its own, and answers whether it is an event of some decoder.
 fn is_event<M: Memory>(
     board: &Running,
