@@ -1,5 +1,6 @@
 use crate::line::Line;
 use crate::trouble::Trouble;
+use fault::Fault;
 use script::{DecoderName, Fit};
 use std::alloc::Global;
 
@@ -15,6 +16,19 @@ pub struct Wanted {
 pub struct Fitted {
     pub name: DecoderName,
     pub fit: Fit,
+}
+
+impl Wanted {
+    /// The decoder that it became, where it could be fitted.
+    pub(crate) fn fitted(self, answer: Result<usize, Fault>) -> Result<Fitted, Trouble> {
+        let Wanted { line, fit } = self;
+        let number = answer.map_err(|fault| Trouble::Unfitted { line, fault })?;
+        let kind = fit.kind();
+        Ok(Fitted {
+            name: DecoderName { kind, number },
+            fit,
+        })
+    }
 }
 
 /// Reads the text of a fittings file: a script of `fit` lines alone.

@@ -5,10 +5,10 @@ use crate::portrait::Portrait;
 use crate::progress::Progress;
 use crate::tally::Tally;
 use crate::trouble::Trouble;
-use board::{Fitting, Running};
+use board::Running;
 use memory::Memory;
 use roster::{Banks, BanksMut};
-use script::DecoderName;
+use script::Fit;
 use std::alloc::Global;
 
 /// What a board made of a capture.
@@ -19,28 +19,29 @@ pub struct Played {
     pub tally: Tally,
 }
 
-/// Fits all that is wanted, in its order.
+/// A board with all that is wanted, in its order, and its decoders: a run without calls yet.
 fn fit_all<M: Memory>(
     heap: Global,
-    board: &mut Fitting,
     banks: &mut BanksMut<'_>,
     memory: &mut M,
     fittings: &[Wanted],
-) -> Result<Vec<Fitted>, Trouble> {
-    fittings
+) -> Result<(Running, Vec<Fitted>), Trouble> {
+    let fits: Vec<Fit> = fittings.iter().map(|wanted| wanted.fit).collect(heap)?;
+    let mut numbers = vec![in heap; Ok(0); fits.len()]?;
+    let board = board::run(
+        fits.as_slice(),
+        &[],
+        banks,
+        memory,
+        numbers.as_mut_slice(),
+        &mut [],
+    )?;
+    let decoders = fittings
         .iter()
-        .map(|wanted| {
-            let Wanted { line, fit } = *wanted;
-            let number = board
-                .fit(banks, memory, fit)
-                .map_err(|fault| Trouble::Unfitted { line, fault })?;
-            let kind = fit.kind();
-            Ok(Fitted {
-                name: DecoderName { kind, number },
-                fit,
-            })
-        })
-        .try_collect(heap)
+        .zip(numbers.iter())
+        .map(|(wanted, number)| wanted.fitted(*number))
+        .try_collect(heap)?;
+    Ok((board, decoders))
 }
 
 // Board, banks and memory stay apart here and in the portraits, as the board's calls take them: a struct of the three
@@ -90,9 +91,7 @@ fn play_on<M: Memory>(
     capture: &Capture,
 ) -> Result<Played, Trouble> {
     let heap = rt.alloc();
-    let mut board = Fitting::new();
-    let decoders = fit_all(heap, &mut board, banks, memory, fittings)?;
-    let board = board.start();
+    let (board, decoders) = fit_all(heap, banks, memory, fittings)?;
     let tally = take_all(rt, &board, banks, memory, capture);
     let portraits = portray_all(heap, &board, banks.shared(), memory, decoders.as_slice())?;
     Ok(Played { portraits, tally })
