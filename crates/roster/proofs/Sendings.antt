@@ -1,13 +1,15 @@
 -- One packet for all decoders.
-use Rattle.std.proofs.Common.{◌≡◌, ℕ, ◌*◌, ◌<◌, ◌≤◌, Bool, true, false, cond, ◌&&◌, ◌||◌, ltb, leb, List, [], ◌∷◌, map, length, get_or, is_some, Some, None, Ok, Err, Option, Result, sym, refl, ap, ◌∙◌, subst, ap₂, ⊎_elim, arith}
+use Rattle.std.proofs.Common.{◌≡◌, ℕ, zero, suc, ◌*◌, ◌<◌, ◌≤◌, Bool, true, false, cond, ◌&&◌, ◌||◌, ltb, leb, List, [], ◌∷◌, map, length, get_or, is_some, Some, None, Ok, Err, Option, Result, sym, refl, ap, ◌∙◌, subst, ap₂, ◌⊎◌, ⊎_elim, true≢false, arith}
 use Rattle.std.proofs.lemmas.Bool.{leb-true, le-leb, and_parts, and_from, cases_Bool, cond-true}
 use Rattle.fault.specs.declared.fault.Fault.{Fault}
 use Rattle.fault.specs.declared.refusal.Refusal.{Refusal}
 use Rattle.packet.specs.declared.instruction.Instruction.{Instruction}
 use Rattle.packet.specs.declared.packet.Packet.{Packet}
 use Rattle.packet.specs.declared.target.Target.{Target}
+use Rattle.packet.specs.declared.target.Target.TheVariants as target
 use Rattle.format.specs.Reading.{packet_read}
 use Rattle.block.specs.Contents.Thing.{fill, power_up, packet}
+use Rattle.memory.specs.Cells.{Outside}
 use Rattle.decoder.specs.declared.records.Mobile as mobile-record
 use Rattle.decoder.specs.Fresh as accessory-record
 use Rattle.decoder.specs.declared.role.Role.{Role}
@@ -19,7 +21,7 @@ use Rattle.bank.specs.Kinds.{same_kind, is_kind, count_below, count_of}
 use Rattle.bank.specs.Windows.{window}
 use Rattle.bank.specs.Hearers.{is_heard, after_hearing}
 use Rattle.bank.specs.Banks.{own_at, Turned, Kept, passes, hears_at, has_records, is_enough, unless_short, lent_too_short}
-use Rattle.bank.proofs.Counts.{count_less, passes_at}
+use Rattle.bank.proofs.Counts.{count_less, count_none, count_skip, passes_at}
 use Rattle.bank.proofs.Turns.{after_turned, before_turned, kept_beyond}
 use Rattle.script.specs.Decoders.{Decoder, lives, hears, RecordOf, decoder_as}
 use Rattle.script.specs.Decoders.Decoder.{mobile, basic, extended}
@@ -165,6 +167,48 @@ delivered ks k {bank} {c = c} {c' = c'} r room cells e o turned kept =
     let t = and_from _ _ (le-leb (count_of ks k) (length bank) room) (le-leb (1024 * length ks) (length c) cells) in
     record { count = ok_is _ _ _ r e t o; turned = turned t; kept = kept t; room = subst (λ n. 1024 * length ks ≤ n) (sym (kept t).size) cells }
 
+-- no decoder of the kind hears a packet to the target
+abbrev pub Deaf : Kind → Target → Type 0
+Deaf k t = (o : Own (RecordOf k)) → (rules_of k).hears o t ≡ None
+
+pub idle_deaf : {t : Target} → t ≡ target.Idle → (k : Kind) → Deaf k t
+idle_deaf e = each _ (subst (Deaf Mobile) (sym e) (λ o. refl)) (subst (Deaf Basic) (sym e) (λ o. refl)) (subst (Deaf Extended) (sym e) (λ o. refl))
+
+-- those of mobile decoders
+abbrev pub IsMobile : Target → Type 0
+IsMobile t = (t ≡ target.Broadcast) ⊎ (((a : ℕ) × (t ≡ target.Short a)) ⊎ ((a : ℕ) × (t ≡ target.Long a)))
+
+accessory_deaf : (k : Kind) → same_kind k Mobile ≡ false → {t : Target} → IsMobile t → Deaf k t
+accessory_deaf Mobile e = absurd (true≢false e)
+accessory_deaf Basic e = ⊎_elim (λ e. subst (Deaf Basic) (sym e) (λ o. refl)) (⊎_elim (λ a. subst (Deaf Basic) (sym a.1) (λ o. refl)) (λ a. subst (Deaf Basic) (sym a.1) (λ o. refl)))
+accessory_deaf Extended e = ⊎_elim (λ e. subst (Deaf Extended) (sym e) (λ o. refl)) (⊎_elim (λ a. subst (Deaf Extended) (sym a.1) (λ o. refl)) (λ a. subst (Deaf Extended) (sym a.1) (λ o. refl)))
+
+and_false : (b : Bool) → (b && false) ≡ false
+and_false true = refl
+and_false false = refl
+
+none_pass : {X : Type 0} (p : X → Bool) → ((x : X) → p x ≡ false) → (xs : List X) (n : ℕ) → passes p xs n ≡ false
+none_pass p e [] n = refl
+none_pass p e (x ∷ xs) zero = e x
+none_pass p e (x ∷ xs) (suc n) = none_pass p e xs n
+
+-- what comes of none, where no decoder of the kind hears
+pub undelivered : {bs : List ℕ} {q : Packet} (ks : List Kind) (k : Kind) {bank : List (RecordOf k)} {c : List ℕ} → Deaf k q.target → 1024 * length ks ≤ length c → Delivery ks bs q k bank bank c c 0
+unfolding hears_at
+undelivered {bs} {q} ks k {bank} {c} unheard room = record {
+  count = sym (count_skip _ 0 (length ks) (omega arith) (λ s _ _. none_hears s) ∙ count_none _);
+  turned = record {
+    len = refl;
+    here = λ x s _ _. sym (ap (λ r. obeyed (rules_of k) (own_at (is_kind ks k) x bank c s) bs (in_role (rules_of k) r q.instruction)) (unheard _));
+    beyond = λ x j _. refl;
+  };
+  kept = record { size = refl; there = λ s _. refl };
+  room = room;
+}
+  where
+    none_hears : (s : ℕ) → hears_at (rules_of k) q.target (is_kind ks k) bank c s ≡ false
+    none_hears s = ap (λ b. is_kind ks k s && b) (none_pass _ (λ x. ap is_some (unheard (own x (window c s)))) bank _) ∙ and_false (is_kind ks k s)
+
 -- what they come to
 pub record Sent (ks : List Kind) (l l' : Lent) (bs : List ℕ) (heard : Bool) : Type 0 where
   pub answer : heard ≡ some_hears (decoders ks l) bs
@@ -205,6 +249,28 @@ module _ (ks : List Kind) (l l' : Lent) (c₁ c₂ : List ℕ) (bs : List ℕ) (
           rest_of ks l l' (λ k. after_hearing (rules_of k) bs q.target q.instruction) all_turned (e.kept.size ∙ b.kept.size ∙ m.kept.size)
           (λ c past. kept_beyond e.kept c past ∙ kept_beyond b.kept c past ∙ kept_beyond m.kept c past) outside;
     }
+
+-- ---- one delivery, to the kind that the target is of; the other two are none
+
+module _ {ks : List Kind} {l : Lent} {bs : List ℕ} {q : Packet} (told : packet_read bs ≡ Ok q) (room : Enough ks l) where
+  pub sent_to_none : q.target ≡ target.Idle → Sent ks l l bs false
+  sent_to_none e =
+      sent_to_all ks l l l.cells l.cells bs q told 0 0 0 (undelivered ks Mobile (idle_deaf e Mobile) room.cells) (undelivered ks Basic (idle_deaf e Basic) room.cells) (undelivered ks Extended (idle_deaf e Extended) room.cells) room refl
+
+  module _ {c : List ℕ} {outside : List Outside} (same : outside ≡ l.outside) {i : ℕ} where
+    pub sent_to_mobiles : {ms : List (RecordOf Mobile)} → IsMobile q.target → Delivery ks bs q Mobile l.mobiles ms l.cells c i → Sent ks l (lent ms l.basics l.extendeds c outside) bs (ltb 0 i)
+    sent_to_mobiles {ms} t d =
+        subst (Sent ks l (lent ms l.basics l.extendeds c outside) bs) (or_false (ltb 0 i))
+        (sent_to_all ks l _ c c bs q told i 0 0 d (undelivered ks Basic (accessory_deaf Basic refl t) d.room) (undelivered ks Extended (accessory_deaf Extended refl t) d.room) room same)
+
+    pub sent_to_basics : {ms : List (RecordOf Basic)} {a : ℕ} → q.target ≡ target.Basic a → Delivery ks bs q Basic l.basics ms l.cells c i → Sent ks l (lent l.mobiles ms l.extendeds c outside) bs (ltb 0 i)
+    sent_to_basics {ms} t d =
+        subst (Sent ks l (lent l.mobiles ms l.extendeds c outside) bs) (or_false (ltb 0 i))
+        (sent_to_all ks l _ l.cells c bs q told 0 i 0 (undelivered ks Mobile (subst (Deaf Mobile) (sym t) (λ o. refl)) room.cells) d (undelivered ks Extended (subst (Deaf Extended) (sym t) (λ o. refl)) d.room) room same)
+
+    pub sent_to_extendeds : {ms : List (RecordOf Extended)} {a : ℕ} → q.target ≡ target.Extended a → Delivery ks bs q Extended l.extendeds ms l.cells c i → Sent ks l (lent l.mobiles l.basics ms c outside) bs (ltb 0 i)
+    sent_to_extendeds t d =
+        sent_to_all ks l _ l.cells l.cells bs q told 0 0 i (undelivered ks Mobile (subst (Deaf Mobile) (sym t) (λ o. refl)) room.cells) (undelivered ks Basic (subst (Deaf Basic) (sym t) (λ o. refl)) room.cells) d room same
 
 -- ---- a power-up
 

@@ -1,4 +1,4 @@
-ghost use Rattle.std.specs.Prelude.{◌≡◌, true, ◌||◌, map, Ok, nat_lt};
+ghost use Rattle.std.specs.Prelude.{◌≡◌, true, map, Ok};
 ghost use Rattle.format.specs.Reading.{packet_read};
 ghost use Rattle.block.specs.Contents.Thing.{power_up, packet as packet_of};
 ghost use Rattle.script.specs.Boards.{is_lent, decoders, Rest};
@@ -9,7 +9,7 @@ use crate::banks::BanksMut;
 use bank::{Kind, deliver, power_up};
 use fault::Refusal;
 use memory::Memory;
-use packet::Packet;
+use packet::{Packet, Target};
 use reader::read;
 
 impl BanksMut<'_> {
@@ -45,17 +45,19 @@ impl BanksMut<'_> {
         ensures rest { Rest kinds.now (held M.Memory self.old memory.old) (held M.Memory self.new memory.new) }
         ensures lenders { SameLenders self.old self.new }
     {
-        let by_mobiles = deliver(self.mobiles, Kind::Mobile, kinds, memory, packet, told).unwrap();
-        let by_basics = deliver(self.basics, Kind::Basic, kinds, memory, packet, told).unwrap();
-        let by_extendeds = deliver(
-            self.extendeds,
-            Kind::Extended,
-            kinds,
-            memory,
-            packet,
-            told,
-        ).unwrap();
-        any(by_mobiles, by_basics, by_extendeds)
+        // Only decoders of the kind that the target names can hear it: the other banks are not asked.
+        match told.target {
+            Target::Idle => false,
+            Target::Broadcast | Target::Short { .. } | Target::Long { .. } => {
+                deliver(self.mobiles, Kind::Mobile, kinds, memory, packet, told).unwrap() > 0
+            }
+            Target::Basic { .. } => {
+                deliver(self.basics, Kind::Basic, kinds, memory, packet, told).unwrap() > 0
+            }
+            Target::Extended { .. } => {
+                deliver(self.extendeds, Kind::Extended, kinds, memory, packet, told).unwrap() > 0
+            }
+        }
     }
 
     /// The power comes up for every decoder.
@@ -69,10 +71,4 @@ impl BanksMut<'_> {
         power_up(self.basics, Kind::Basic, kinds).unwrap();
         power_up(self.extendeds, Kind::Extended, kinds).unwrap();
     }
-}
-
-fn any(mobiles: usize, basics: usize, extendeds: usize) -> bool
-    ensures { result ≡ (nat_lt 0 mobiles || (nat_lt 0 basics || nat_lt 0 extendeds)) }
-{
-    mobiles > 0 || basics > 0 || extendeds > 0
 }
