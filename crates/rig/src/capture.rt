@@ -1,11 +1,10 @@
-use crate::files::read_bytes;
 use crate::trouble::{Cut, Trouble};
 use std::alloc::Global;
 
 /// The blocks of a capture, in the order in which they were handed over.
 #[derive(Drop)]
-pub struct Capture {
-    pub blocks: Vec<Vec<u8>>,
+pub struct Capture<'a> {
+    pub blocks: Vec<&'a [u8]>,
 }
 
 fn cut_off(heap: Global, path: &str, cut: Cut) -> Result<Trouble, Trouble> {
@@ -14,7 +13,7 @@ fn cut_off(heap: Global, path: &str, cut: Cut) -> Result<Trouble, Trouble> {
 }
 
 /// Divides bytes into blocks. Each has its length before it in two bytes, the high one first.
-fn divide(heap: Global, path: &str, bytes: &[u8]) -> Result<Vec<Vec<u8>>, Trouble> {
+fn divide<'a>(heap: Global, path: &str, bytes: &'a [u8]) -> Result<Vec<&'a [u8]>, Trouble> {
     let mut blocks = Vec::new(heap);
     let mut rest = bytes;
     while let [high, low, tail @ ..] = rest {
@@ -22,7 +21,7 @@ fn divide(heap: Global, path: &str, bytes: &[u8]) -> Result<Vec<Vec<u8>>, Troubl
         let (block, after) = tail
             .split_at_checked(length)
             .try_ok_or_else(|| cut_off(heap, path, Cut::WithinBlock))?;
-        blocks.push(Vec::from_slice(heap, block)?)?;
+        blocks.push(block)?;
         rest = after;
     }
     if rest.is_empty() {
@@ -32,11 +31,10 @@ fn divide(heap: Global, path: &str, bytes: &[u8]) -> Result<Vec<Vec<u8>>, Troubl
     }
 }
 
-impl Capture {
-    /// Reads a capture from a file.
-    pub(crate) fn read(rt: &HostRuntime, path: &str) -> Result<Capture, Trouble> {
-        let bytes = read_bytes(rt, path)?;
-        let blocks = divide(rt.alloc(), path, bytes.as_slice())?;
+impl<'a> Capture<'a> {
+    /// The capture that a file holds, by its bytes.
+    pub(crate) fn new(heap: Global, path: &str, bytes: &'a [u8]) -> Result<Capture<'a>, Trouble> {
+        let blocks = divide(heap, path, bytes)?;
         Ok(Capture { blocks })
     }
 }

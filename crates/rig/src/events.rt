@@ -63,14 +63,13 @@ fn events_alone<M: Memory>(
     banks: &mut BanksMut<'_>,
     memory: &mut M,
     fit: Fit,
-    capture: &Capture,
+    capture: &Capture<'_>,
 ) -> Result<Vec<u8>, Trouble> {
     let mut board = Fitting::new();
     board.fit(banks, memory, fit)?;
     let board = board.start();
     let mut events = Vec::new(heap);
     for block in capture.blocks.iter() {
-        let block = block.as_slice();
         add_events(&board, banks, memory, block, &mut events)?;
     }
     Ok(events)
@@ -79,7 +78,11 @@ fn events_alone<M: Memory>(
 /// The decoder's own events in a capture, one behind the other: the power-ups, and the packets that it hears.
 ///
 /// They are found on a board on which it is alone.
-pub(crate) fn own_events(heap: Global, fit: Fit, capture: &Capture) -> Result<Vec<u8>, Trouble> {
+pub(crate) fn own_events(
+    heap: Global,
+    fit: Fit,
+    capture: &Capture<'_>,
+) -> Result<Vec<u8>, Trouble> {
     let mut banks = BanksMut {
         mobiles: &mut [Mobile::new()],
         basics: &mut [Basic::new(0)],

@@ -50,8 +50,8 @@ impl fmt::Display for Verdict {
 fn has_same_events(
     heap: Global,
     fit: Fit,
-    capture: &Capture,
-    other: &Capture,
+    capture: &Capture<'_>,
+    other: &Capture<'_>,
 ) -> Result<bool, Trouble> {
     let first = own_events(heap, fit, capture)?;
     let second = own_events(heap, fit, other)?;
@@ -62,8 +62,8 @@ fn has_same_events(
 /// a failure.
 pub(crate) fn compare_ends(
     rt: &HostRuntime,
-    capture: &Capture,
-    other_capture: &Capture,
+    capture: &Capture<'_>,
+    other_capture: &Capture<'_>,
     one: &Played,
     other: &Played,
 ) -> Result<ExitCode, Trouble> {

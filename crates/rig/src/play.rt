@@ -54,14 +54,13 @@ fn take_all<M: Memory>(
     board: &Running,
     banks: &mut BanksMut<'_>,
     memory: &mut M,
-    capture: &Capture,
+    capture: &Capture<'_>,
 ) -> Tally {
     let mut tally = Tally::default();
     let progress = Progress::new(rt, capture.blocks.len());
     for (done, block) in capture.blocks.iter().enumerate() {
         // A report that cannot be written is no reason to stop.
         let _ = progress.tell(rt, done);
-        let block = block.as_slice();
         let result = board.take(banks, memory, block);
         tally.add(block, result);
     }
@@ -88,7 +87,7 @@ fn play_on<M: Memory>(
     banks: &mut BanksMut<'_>,
     memory: &mut M,
     fittings: &[Wanted],
-    capture: &Capture,
+    capture: &Capture<'_>,
 ) -> Result<Played, Trouble> {
     let heap = rt.alloc();
     let (board, decoders) = fit_all(heap, banks, memory, fittings)?;
@@ -102,7 +101,7 @@ pub(crate) fn play<M: Memory>(
     rt: &HostRuntime,
     memory: &mut M,
     fittings: &[Wanted],
-    capture: &Capture,
+    capture: &Capture<'_>,
 ) -> Result<Played, Trouble> {
     let mut records = Records::new(rt.alloc())?;
     play_on(rt, &mut records.banks(), memory, fittings, capture)

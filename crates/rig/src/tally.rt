@@ -14,9 +14,15 @@ pub struct Tally {
     fill: usize,
 }
 
-/// Whether the records of a block end in fill, without a fault.
+/// Whether a block that has no fault ends in fill.
 fn ends_in_fill(block: &[u8]) -> bool {
-    survey(block).is_ok_and(|summary| summary.fault.is_none() && summary.end < block.len())
+    match block {
+        // A record has at most 7 bytes, and none begins with 0.
+        [.., 0, 0, 0, 0, 0, 0, 0] => true,
+        // A packet's last byte may be 0, too.
+        [.., 0] => survey(block).is_ok_and(|summary| summary.end < block.len()),
+        _ => false,
+    }
 }
 
 impl Tally {
@@ -33,12 +39,11 @@ impl Tally {
                 self.add_packets(taken);
                 if taken.fault.is_some() {
                     self.faults = self.faults.saturating_add(1);
+                } else if ends_in_fill(block) {
+                    self.fill = self.fill.saturating_add(1);
                 }
             }
             Err(_) => self.refused_blocks = self.refused_blocks.saturating_add(1),
-        }
-        if ends_in_fill(block) {
-            self.fill = self.fill.saturating_add(1);
         }
     }
 }

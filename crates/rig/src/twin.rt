@@ -1,7 +1,7 @@
 use crate::banks::CELLS;
 use crate::capture::Capture;
 use crate::digest::Digest;
-use crate::files::read_text;
+use crate::files::{read_bytes, read_text};
 use crate::fittings::{Wanted, read_fittings};
 use crate::isolation::compare_ends;
 use crate::names::Named;
@@ -29,7 +29,7 @@ struct Difference {
 fn play_on_bytes(
     rt: &HostRuntime,
     fittings: &[Wanted],
-    capture: &Capture,
+    capture: &Capture<'_>,
 ) -> Result<Played, Trouble> {
     let mut bytes = vec![in rt.alloc(); 0u8; CELLS]?;
     let mut memory = ByteMemory::new(bytes.as_mut_slice());
@@ -40,7 +40,7 @@ fn play_on_bytes(
 fn play_on_words(
     rt: &HostRuntime,
     fittings: &[Wanted],
-    capture: &Capture,
+    capture: &Capture<'_>,
 ) -> Result<Played, Trouble> {
     let mut words = vec![in rt.alloc(); 0u16; WORDS]?;
     let below = WordMemory::new(words.as_mut_slice());
@@ -68,7 +68,7 @@ fn digest_of(portraits: &[Portrait]) -> Digest {
 }
 
 /// Prints what was played, in two lines.
-fn show(rt: &HostRuntime, played: &Played, capture: &Capture) -> Result<(), Trouble> {
+fn show(rt: &HostRuntime, played: &Played, capture: &Capture<'_>) -> Result<(), Trouble> {
     let decoders = played.portraits.len();
     let blocks = capture.blocks.len();
     let tally = played.tally;
@@ -101,7 +101,8 @@ fn fittings_in(rt: &HostRuntime, path: &str) -> Result<Vec<Wanted>, Trouble> {
 /// Takes a capture on one board, and tells what it holds then by a digest.
 pub(crate) fn replay(rt: &HostRuntime, fittings: &str, capture: &str) -> Result<ExitCode, Trouble> {
     let fittings = fittings_in(rt, fittings)?;
-    let capture = Capture::read(rt, capture)?;
+    let bytes = read_bytes(rt, capture)?;
+    let capture = Capture::new(rt.alloc(), capture, bytes.as_slice())?;
     let played = play_on_bytes(rt, fittings.as_slice(), &capture)?;
     show(rt, &played, &capture)?;
     let digest = digest_of(played.portraits.as_slice());
@@ -112,7 +113,8 @@ pub(crate) fn replay(rt: &HostRuntime, fittings: &str, capture: &str) -> Result<
 /// Takes a capture on two boards over different memories, and compares their decoders.
 pub(crate) fn twin(rt: &HostRuntime, fittings: &str, capture: &str) -> Result<ExitCode, Trouble> {
     let fittings = fittings_in(rt, fittings)?;
-    let capture = Capture::read(rt, capture)?;
+    let bytes = read_bytes(rt, capture)?;
+    let capture = Capture::new(rt.alloc(), capture, bytes.as_slice())?;
     let one = play_on_bytes(rt, fittings.as_slice(), &capture)?;
     let other = play_on_words(rt, fittings.as_slice(), &capture)?;
     show(rt, &one, &capture)?;
@@ -127,8 +129,10 @@ pub(crate) fn twin_with_other(
     other_capture: &str,
 ) -> Result<ExitCode, Trouble> {
     let fittings = fittings_in(rt, fittings)?;
-    let capture = Capture::read(rt, capture)?;
-    let other_capture = Capture::read(rt, other_capture)?;
+    let bytes = read_bytes(rt, capture)?;
+    let capture = Capture::new(rt.alloc(), capture, bytes.as_slice())?;
+    let other_bytes = read_bytes(rt, other_capture)?;
+    let other_capture = Capture::new(rt.alloc(), other_capture, other_bytes.as_slice())?;
     let one = play_on_bytes(rt, fittings.as_slice(), &capture)?;
     let other = play_on_words(rt, fittings.as_slice(), &other_capture)?;
     show(rt, &one, &capture)?;
