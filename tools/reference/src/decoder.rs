@@ -90,8 +90,9 @@ impl Mobile {
     }
 }
 
+/// By which of its addresses a decoder hears a packet.
 #[derive(Clone, Copy, Debug, PartialEq, Eq)]
-enum Role {
+pub enum Role {
     Everyone,
     Own,
     Consist,
@@ -184,7 +185,8 @@ impl Decoder {
         true
     }
 
-    fn role(&self, target: Target) -> Option<Role> {
+    /// Whether the decoder hears a packet, and by which address.
+    pub fn role(&self, target: Target) -> Option<Role> {
         let (own, everyone) = match self.body {
             Body::Mobile(_) => (self.own_address(), Target::AllMobiles),
             Body::Basic { address, .. } => (Some(Target::Basic(address)), Target::Basic(BASIC_BROADCAST)),

@@ -6,7 +6,8 @@ use std::process::ExitCode;
 
 use reference::{bench, listing, script, twin};
 
-const USAGE: &str = "reference listing | bench | run [FILE] | replay FITTINGS CAPTURE | twin FITTINGS CAPTURE [--other CAPTURE]";
+const USAGE: &str =
+    "reference listing | bench | run [FILE] | replay FITTINGS CAPTURE | twin FITTINGS CAPTURE [--other CAPTURE]";
 
 fn main() -> ExitCode {
     let arguments: Vec<String> = std::env::args().skip(1).collect();

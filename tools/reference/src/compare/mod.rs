@@ -1,6 +1,7 @@
 //! Compares programs with the reference on made-up input.
 
 pub mod captures;
+pub mod coverage;
 pub mod packets;
 pub mod program;
 pub mod published;
@@ -39,20 +40,9 @@ impl Report {
 
 /// Compares all sets, telling differences as they are found.
 pub fn run(plan: &Plan) -> Vec<Report> {
-    let mut reports = vec![sets::blocks(plan), scripts_and_refusals(plan), sets::captures(plan), sets::published(plan)];
+    let mut reports = vec![sets::blocks(plan), sets::scripts(plan), sets::captures(plan), sets::published(plan)];
     if plan.listings > 0 {
         reports.push(sets::listings(plan));
     }
     reports
-}
-
-fn scripts_and_refusals(plan: &Plan) -> Report {
-    let mut seen = scripts::Refusals::default();
-    let mut report = sets::scripts(plan, &mut seen);
-    println!("refusals caused by scripts: {seen}");
-    // A few scripts cannot be expected to cause them all.
-    if report.passed() && plan.scripts >= 200 && !seen.missing().is_empty() {
-        report.trouble = Some(format!("no script caused the refusals {:?}", seen.missing()));
-    }
-    report
 }

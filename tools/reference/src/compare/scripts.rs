@@ -1,11 +1,9 @@
 //! Made-up scripts.
 
-use std::fmt;
-
 use super::packets::{self, Air};
 use super::random::Random;
 use crate::board::Name;
-use crate::decoder::{Body, Decoder, Kind};
+use crate::decoder::{Body, Decoder, Kind, Mobile};
 use crate::script::{hex, Rig};
 
 const VARIABLES_AT_THE_END: [u16; 14] = [1, 4, 8, 17, 18, 19, 23, 24, 29, 31, 32, 519, 541, 1024];
@@ -35,39 +33,6 @@ const BAD_LINES: [&str; 24] = [
     "variable basic 0 1 2",
     "function mobile 0 +1",
 ];
-
-/// How often each refusal stands in the answers.
-#[derive(Default)]
-pub struct Refusals([usize; 20]);
-
-/// No block can carry a packet of another length than 3 to 6, so that no script can cause refusal 1.
-const FIRST_THAT_SCRIPTS_CAUSE: usize = 2;
-
-impl Refusals {
-    pub fn count(&mut self, answers: &str) {
-        for line in answers.lines() {
-            let words: Vec<&str> = line.split(' ').collect();
-            for (index, pair) in words.windows(2).enumerate() {
-                let told = matches!(pair[0], "first" | "fault") || pair[0] == "refused" && index == 0;
-                let number = pair[1].parse().unwrap_or(0);
-                if told && number < self.0.len() {
-                    self.0[number] += 1;
-                }
-            }
-        }
-    }
-
-    pub fn missing(&self) -> Vec<usize> {
-        (FIRST_THAT_SCRIPTS_CAUSE..self.0.len()).filter(|&number| self.0[number] == 0).collect()
-    }
-}
-
-impl fmt::Display for Refusals {
-    fn fmt(&self, f: &mut fmt::Formatter<'_>) -> fmt::Result {
-        let counts = (FIRST_THAT_SCRIPTS_CAUSE..self.0.len()).map(|number| format!("{number}: {}", self.0[number]));
-        write!(f, "{}", counts.collect::<Vec<_>>().join(", "))
-    }
-}
 
 /// A fitting, mostly one that is accepted; the address joins those that packets are sent to.
 pub fn fit(random: &mut Random, air: &mut Air, percent_odd: usize) -> String {
@@ -113,6 +78,11 @@ fn air_of(decoder: &Decoder) -> Air {
         Body::Extended { address, .. } => air.extendeds.push(address),
     }
     air
+}
+
+/// The numbers of the places that are on.
+fn numbers_of(name: Name, places: &[bool]) -> Vec<(Name, usize)> {
+    (0..places.len()).filter(|&number| places[number]).map(|number| (name, number)).collect()
 }
 
 /// What makes a script; the reference follows it, so that the script can speak of decoders that exist.
@@ -207,7 +177,7 @@ impl Maker<'_> {
         }
         let count = match self.random.below(10) {
             0 => 0,
-            1 => self.random.between(30, 36),
+            1 => self.random.between(32, 38),
             2 => self.random.between(6, 16),
             _ => self.random.between(1, 6),
         };
@@ -284,18 +254,38 @@ impl Maker<'_> {
                 format!("variable {} {cv:0digits$}", self.name())
             }
             4 => {
-                let any = self.random.below(69);
+                let any = self.random.below(69) as u16;
                 let number = self.random.pick(&[0, 1, 68, 69, 65535, any]);
-                format!("function {} {number}", self.name())
+                self.switch("function", number, |mobile| &mobile.functions)
             }
             5 => {
-                let any = self.random.between(1, 2047);
+                let any = self.random.between(1, 2047) as u16;
                 let number = self.random.pick(&[0, 1, 127, 2047, 2048, 65535, any]);
-                format!("binary {} {number}", self.name())
+                self.switch("binary", number, |mobile| &mobile.states)
             }
             _ => "take 10".to_string(),
         };
         self.say(line);
+    }
+
+    /// Reads a function or a binary state: often one that is on, else that of the number.
+    fn switch(&mut self, word: &str, number: u16, places: fn(&Mobile) -> &[bool]) -> String {
+        let board = &self.rig.board;
+        let on: Vec<(Name, usize)> = board
+            .names()
+            .into_iter()
+            .zip(&board.decoders)
+            .flat_map(|(name, decoder)| match &decoder.body {
+                Body::Mobile(mobile) => numbers_of(name, places(mobile)),
+                _ => Vec::new(),
+            })
+            .collect();
+        if on.is_empty() || self.random.chance(40) {
+            format!("{word} {} {number}", self.name())
+        } else {
+            let (name, number) = self.random.pick(&on);
+            format!("{word} {} {} {number}", name.kind.word(), name.number)
+        }
     }
 
     fn take(&mut self) -> String {
@@ -347,14 +337,6 @@ impl Maker<'_> {
 mod tests {
     use super::*;
     use crate::script::run;
-
-    #[test]
-    fn counts_refusals() {
-        let mut refusals = Refusals::default();
-        refusals.count("refused 18 board 0 no such decoder");
-        refusals.count("taken heard 3 unheard 4 refused 5 first 7 packet 0 x fault 12 block 9 y");
-        assert_eq!((refusals.0[18], refusals.0[7], refusals.0[12], refusals.0[5]), (1, 1, 1, 0));
-    }
 
     #[test]
     fn only_the_last_line_may_be_bad() {

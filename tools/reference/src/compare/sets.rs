@@ -4,10 +4,11 @@ use std::fs;
 use std::path::PathBuf;
 
 use super::captures::{self, Capture, Case};
+use super::coverage::Coverage;
 use super::packets::{self, Air};
 use super::program::{Answer, Program};
 use super::random::Random;
-use super::scripts::{self, Refusals};
+use super::scripts;
 use super::shrink::{shrink, shrink_block, Budget};
 use super::{published, Plan, Report};
 use crate::script::{Call, Line};
@@ -36,6 +37,16 @@ fn set(
     report
 }
 
+/// A set that is large enough must bring about all that it should.
+fn covered(mut report: Report, enough: usize, coverage: &Coverage) -> Report {
+    println!("{} bring about: {coverage}\n", report.name);
+    let missing = coverage.missing();
+    if report.passed() && report.compared >= enough && !missing.is_empty() {
+        report.trouble = Some(format!("never brought about: {}", missing.join(", ")));
+    }
+    report
+}
+
 fn show(set: &str, plan: &Plan, case: usize, input: &str, program: &Answer, reference: &Answer) {
     let told = |success| if success { "success" } else { "failure" };
     println!("difference in {set}, seed {}, case {case}", plan.seed);
@@ -55,9 +66,11 @@ pub fn listings(plan: &Plan) -> Report {
 /// The sets whose input is one block. The documents do not say how such a program ends, so only the output counts.
 fn block_set(name: &'static str, program: &str, plan: &Plan, count: usize, lines: fn(&[u8]) -> Vec<String>) -> Report {
     let expected = |block: &[u8]| Answer::of(&lines(block), true);
-    set(name, count, Program::find(&plan.programs, program), &mut |program, case| {
+    let mut coverage = Coverage::of_blocks();
+    let report = set(name, count, Program::find(&plan.programs, program), &mut |program, case| {
         let mut random = Random::for_case(plan.seed, name, case);
         let block = packets::block(&mut random, &Air::of_bench(), 12);
+        coverage.block(&block);
         let mut differs = |block: &[u8]| program.run(&[], block).output != expected(block).output;
         if !differs(&block) {
             return true;
@@ -66,7 +79,8 @@ fn block_set(name: &'static str, program: &str, plan: &Plan, count: usize, lines
         let answer = program.run(&[], &block);
         show(name, plan, case, &script::hex(&block), &answer, &expected(&block));
         false
-    })
+    });
+    covered(report, 1000, &coverage)
 }
 
 fn script_text(lines: &[String]) -> String {
@@ -78,20 +92,22 @@ fn script_answer(text: &str) -> Answer {
     Answer::of(&performance.lines, performance.bad_line.is_none())
 }
 
-pub fn scripts(plan: &Plan, seen: &mut Refusals) -> Report {
-    set("scripts", plan.scripts, Program::find(&plan.programs, "rig"), &mut |rig, case| {
+pub fn scripts(plan: &Plan) -> Report {
+    let mut coverage = Coverage::of_scripts();
+    let report = set("scripts", plan.scripts, Program::find(&plan.programs, "rig"), &mut |rig, case| {
         let mut random = Random::for_case(plan.seed, "scripts", case);
         let lines = scripts::script(&mut random);
         let text = script_text(&lines);
         let expected = script_answer(&text);
-        seen.count(&expected.output);
+        coverage.script(&lines, &expected.output);
         if rig.run(&["run"], text.as_bytes()) == expected {
             return true;
         }
         let text = script_text(&small_script(rig, lines));
         show("scripts", plan, case, &text, &rig.run(&["run"], text.as_bytes()), &script_answer(&text));
         false
-    })
+    });
+    covered(report, 200, &coverage)
 }
 
 /// Leaves off lines, then records and bytes of the blocks that are left, then lines again.
