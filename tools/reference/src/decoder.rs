@@ -186,6 +186,7 @@ impl Decoder {
     }
 
     /// Whether the decoder hears a packet, and by which address.
+    #[inline]
     pub fn role(&self, target: Target) -> Option<Role> {
         let (own, everyone) = match self.body {
             Body::Mobile(_) => (self.own_address(), Target::AllMobiles),
