@@ -22,7 +22,7 @@ packet_bytes power_up = None
 packet_bytes (packet p) = Some p
 
 -- the bytes of the packets among the records
-abbrev packets : List (ℕ × Thing) → List (List ℕ)
+abbrev pub packets : List (ℕ × Thing) → List (List ℕ)
 packets rs = filter_map (λ r. packet_bytes r.1) rs
 
 -- those of an item of a walk
@@ -43,7 +43,7 @@ behind (x ∷ xs) k p e = cc
 packet_stands : (b : List ℕ) (o : ℕ) (p : List ℕ) → Stands b o (packet p) → take (length p) (drop (o + 1) b) ≡ p
 packet_stands b o p s = ap (take (length p)) (sym (drop-drop 1 o b)) ∙ behind (drop o b) (length p) p s.bytes
 
-places : (b : List ℕ) (rs : List (ℕ × Thing)) (o e n : ℕ) → Tiles b o rs e → ok_or (slice_get (packets rs) n) (fault_at NumberOutOfRange 0) ≡ bytes_at b (packet_place n rs)
+pub places : (b : List ℕ) (rs : List (ℕ × Thing)) (o e n : ℕ) → Tiles b o rs e → ok_or (slice_get (packets rs) n) (fault_at NumberOutOfRange 0) ≡ bytes_at b (packet_place n rs)
 places b [] o e n t = refl
 places b ((at, fill) ∷ rs) o e n t = absurd t.1.kind
 places b ((at, power_up) ∷ rs) o e n t = places b rs _ e n t.2

@@ -7,3 +7,4 @@ pub mod Picks
 pub mod Tilings
 pub mod Walkings
 pub mod Examples
+pub mod Agreements

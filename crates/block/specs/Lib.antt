@@ -4,3 +4,4 @@ pub mod Handing
 pub mod Summing
 pub mod Tiling
 pub mod Walking
+pub mod Laws

@@ -2,6 +2,7 @@
 
 #![tactic(auto)]
 
+mod laws;
 mod limit;
 mod packets;
 pub mod records;
@@ -9,6 +10,7 @@ pub mod summary;
 mod surveying;
 pub mod walk;
 
+pub use crate::laws::blocks_agree;
 pub use crate::packets::packet_at;
 pub use crate::records::{Carried, Record, record_at};
 pub use crate::summary::Survey;

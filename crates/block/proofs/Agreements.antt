@@ -1,0 +1,52 @@
+-- The laws of surveys and of what is handed out. Assumes nothing.
+use Rattle.std.proofs.Common.{◌≡◌, ℕ, suc, ◌+◌, List, [], ◌∷◌, length, slice_get, Ok, sym, refl, ap, ◌∙◌, arith}
+use Rattle.std.proofs.lemmas.Bool.{cond-true}
+use Rattle.std.specs.Option.{ok_or}
+use Rattle.fault.specs.declared.refusal.Refusal.TheVariants.{NumberOutOfRange}
+use Rattle.fault.specs.Places.{fault_at}
+use Rattle.block.specs.declared.summary.Survey.{Survey}
+use Rattle.block.specs.Contents.{Thing}
+use Rattle.block.specs.Contents.Thing.{fill, power_up, packet}
+use Rattle.block.specs.Reading.{reading, carried}
+use Rattle.block.specs.Summing.{summed, surveyed, packet_count, power_up_count}
+use Rattle.block.specs.Tiling.{Tiles}
+use Rattle.block.specs.Laws.{packets_among, HandsOutEach, CountsEach, Laws}
+use Rattle.block.proofs.Handings.{packets, places}
+use Rattle.block.proofs.Tilings.{sound}
+
+among : (rs : List (ℕ × Thing)) → packets rs ≡ packets_among rs
+among [] = refl
+among ((o, fill) ∷ rs) = among rs
+among ((o, power_up) ∷ rs) = among rs
+among ((o, packet p) ∷ rs) = ap (λ ps. p ∷ ps) (among rs)
+
+hands_out_each : HandsOutEach
+hands_out_each b n good =
+    cond-true _ _ _ good ∙ sym (places b (carried (reading b)) 0 _ n (sound b).0)
+    ∙ ap (λ ps. ok_or (slice_get ps n) (fault_at NumberOutOfRange 0)) (among (carried (reading b)))
+
+counted : (rs : List (ℕ × Thing)) → packet_count rs ≡ length (packets_among rs)
+counted [] = refl
+counted ((o, fill) ∷ rs) = counted rs
+counted ((o, power_up) ∷ rs) = counted rs
+counted ((o, packet p) ∷ rs) = ap suc (counted rs)
+
+all_counted : (b : List ℕ) (rs : List (ℕ × Thing)) (o e : ℕ) → Tiles b o rs e → packet_count rs + power_up_count rs ≡ length rs
+all_counted b [] o e t = refl
+all_counted b ((at, fill) ∷ rs) o e t = absurd t.1.kind
+all_counted b ((at, power_up) ∷ rs) o e t = omega (arith, all_counted b rs _ e t.2)
+all_counted b ((at, packet p) ∷ rs) o e t = omega (arith, all_counted b rs _ e t.2)
+
+-- a survey that is not refused is that of the block's reading
+sum_of : (b : List ℕ) (s : Survey) → surveyed b ≡ Ok s → s ≡ summed (length b) (reading b)
+sum_of b s e = grind arith
+
+counts_each : CountsEach
+counts_each b s e =
+    let is = sum_of b s e in
+    let p : s.packets ≡ packet_count (carried (reading b)) = ap (λ (t : Survey). t.packets) is in
+    let u : s.power_ups ≡ power_up_count (carried (reading b)) = ap (λ (t : Survey). t.power_ups) is in
+    (p ∙ counted (carried (reading b)), omega (arith, p, u, all_counted b (carried (reading b)) 0 _ (sound b).0))
+
+pub laws : Laws
+laws = record { hands_out = hands_out_each; counts = counts_each }

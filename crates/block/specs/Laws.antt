@@ -1,0 +1,35 @@
+-- What a survey and the handing out of packets have to do with each other.
+use Rattle.std.specs.Prelude.{◌≡◌, ℕ, ◌+◌, true, List, [], ◌∷◌, length, Ok}
+use Rattle.std.specs.List.{slice_get}
+use Rattle.std.specs.Option.{ok_or}
+use Rattle.fault.specs.declared.refusal.Refusal.TheVariants.{NumberOutOfRange}
+use Rattle.fault.specs.Places.{fault_at}
+use Rattle.block.specs.declared.summary.Survey.{Survey}
+use Rattle.block.specs.Contents.{Thing, is_block_length}
+use Rattle.block.specs.Contents.Thing.{fill, power_up, packet}
+use Rattle.block.specs.Handing.{handed_out}
+use Rattle.block.specs.Reading.{reading, carried}
+use Rattle.block.specs.Summing.{surveyed}
+
+-- the packets among the records
+abbrev pub packets_among : List (ℕ × Thing) → List (List ℕ)
+packets_among [] = []
+packets_among ((o, fill) ∷ rs) = packets_among rs
+packets_among ((o, power_up) ∷ rs) = packets_among rs
+packets_among ((o, packet p) ∷ rs) = p ∷ packets_among rs
+
+-- those that the block b carries, in their order
+abbrev pub packets_of : List ℕ → List (List ℕ)
+packets_of b = packets_among (carried (reading b))
+
+-- the numbers from 0 on name just the packets that a block carries
+abbrev pub HandsOutEach : Type 0
+HandsOutEach = (b : List ℕ) (n : ℕ) → is_block_length (length b) ≡ true → handed_out b n ≡ ok_or (slice_get (packets_of b) n) (fault_at NumberOutOfRange 0)
+
+-- a survey counts each of these packets, and each record that is carried once
+abbrev pub CountsEach : Type 0
+CountsEach = (b : List ℕ) (s : Survey) → surveyed b ≡ Ok s → (s.packets ≡ length (packets_of b)) × (s.packets + s.power_ups ≡ length (carried (reading b)))
+
+pub record Laws : Type 0 where
+  pub hands_out : HandsOutEach
+  pub counts : CountsEach
