@@ -4,3 +4,4 @@ pub mod Persisted
 pub mod Lawfuls
 pub mod Tracks
 pub mod Fittings
+pub mod Hearings

@@ -27,6 +27,7 @@ use Rattle.state.specs.declared.volatile.MobileState.{MobileState}
 use Rattle.state.specs.declared.scale.Scale.TheVariants.{Fourteen, TwentyEight}
 use Rattle.decoder.specs.Alone.{Own, Rules, variable, named, applied, hearing, obeyed, live, mobile_rules, accessory_rules}
 use Rattle.decoder.specs.Alone.Event.{heard}
+use Rattle.decoder.proofs.Hearings.{hears_its_own, has_an_address, hears_its_kind}
 use Rattle.decoder.proofs.Sounds.{Apart, Sound, basic_sound, extended_sound}
 use Rattle.decoder.specs.Laws.{KindLaws, ReplyNeedsAll, ResetIsPowerUp, ByConsistOnlySpeed, GroupsSwitchTheirOwn, is_in_group, LightByGroupOne, OthersKeepFunctions, Laws}
 
@@ -218,4 +219,7 @@ laws = record {
   groups = groups_switch;
   light = light_by_one;
   functions = others_keep;
+  own = hears_its_own;
+  addresses = has_an_address;
+  kinds = hears_its_kind;
 }

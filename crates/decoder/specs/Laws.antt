@@ -1,10 +1,11 @@
 -- What the rules come to, in the words of the track.
-use Rattle.std.specs.Prelude.{◌≡◌, ℕ, ◌+◌, ◌-◌, ◌≤◌, Bool, true, false, cond, ◌&&◌, ◌⊎◌, List, length, Some, None, Option, ◌≢◌, nat_le, nat_lt, slice_index_or}
+use Rattle.std.specs.Prelude.{◌≡◌, ℕ, ◌+◌, ◌-◌, ◌<◌, ◌≤◌, Bool, true, false, cond, ◌&&◌, ◌⊎◌, List, length, Some, None, Option, ◌≢◌, nat_le, nat_lt, slice_index_or}
 use Rattle.packet.specs.declared.instruction.FunctionGroup.{FunctionGroup}
 use Rattle.packet.specs.declared.instruction.FunctionGroup.TheVariants.{F0ToF4, F5ToF8, F9ToF12, F13ToF20, F21ToF28, F29ToF36, F37ToF44, F45ToF52, F53ToF60, F61ToF68}
 use Rattle.packet.specs.declared.instruction.Instruction.{Instruction}
 use Rattle.packet.specs.declared.instruction.Instruction.TheVariants.{NoOperation, Reset, HardReset, AdvancedAddressing, AcknowledgmentRequest, Consist, Speed, Speed126, Functions, BinaryStateShort, BinaryStateLong, AccelerationAdjustment, DecelerationAdjustment, VerifyByte, WriteByte, VerifyBit, WriteBit, Output, Aspect}
 use Rattle.packet.specs.declared.target.Target.{Target}
+use Rattle.packet.specs.declared.target.Target.TheVariants as target
 use Rattle.packet.specs.Groups.{lowest_of, width_of}
 use Rattle.format.specs.Reading.{packet_read}
 use Rattle.state.specs.declared.step.Step.{Step}
@@ -14,10 +15,15 @@ use Rattle.state.specs.Packing.{packed, matches}
 use Rattle.state.specs.Scales.{top}
 use Rattle.state.specs.Starting.{mobile_start}
 use Rattle.decoder.specs.declared.records.Mobile.{Mobile}
+use Rattle.decoder.specs.declared.role.Address.{Address}
+use Rattle.decoder.specs.declared.role.Address.TheVariants as address
 use Rattle.decoder.specs.declared.role.Role.{Role}
 use Rattle.decoder.specs.declared.role.Role.TheVariants as role
 use Rattle.decoder.specs.declared.effect.Accessed.{Accessed}
 use Rattle.decoder.specs.Accesses.{is_write}
+use Rattle.decoder.specs.Fresh.{Basic, Extended}
+use Rattle.decoder.specs.Fitted.{mobile_fitted, basic_fitted, extended_fitted}
+use Rattle.decoder.specs.Hearing.{own_address}
 use Rattle.decoder.specs.Replies.{reply_after}
 use Rattle.decoder.specs.Mobiles.{is_speed, mobile_noted}
 use Rattle.decoder.specs.Alone.{Own, Rules, hearing, live, mobile_rules, basic_rules, extended_rules}
@@ -118,6 +124,31 @@ OthersKeepFunctions =
     → touches_functions i ≡ false
     → (mobile_rules.obeys o r bs i).rec.state.functions ≡ o.rec.state.functions
 
+-- the target of packets to an address, and the addresses of mobile decoders
+abbrev pub target_at : Address → Target
+target_at (address.Short a) = target.Short a
+target_at (address.Long a) = target.Long a
+
+abbrev pub is_mobile_address : Address → Bool
+is_mobile_address (address.Short a) = nat_le 1 a && nat_le a 127
+is_mobile_address (address.Long a) = nat_le a 10239
+
+-- a decoder that was fitted at an address hears the packets to it, by its own address
+pub record HearsItsOwn : Type 0 where
+  pub mobile : (a : Address) → is_mobile_address a ≡ true → mobile_rules.hears (mobile_fitted a) (target_at a) ≡ Some role.Own
+  pub basic : (a : ℕ) → basic_rules.hears (basic_fitted a) (target.Basic a) ≡ Some role.Own
+  pub extended : (a : ℕ) → extended_rules.hears (extended_fitted a) (target.Extended a) ≡ Some role.Own
+
+-- whatever its variables hold, a mobile decoder has no other address than these
+abbrev pub HasAnAddress : Type 0
+HasAnAddress = (config short high low : ℕ) (a : Address) → low < 256 → own_address config short high low ≡ Some a → is_mobile_address a ≡ true
+
+-- it hears no packet to nobody and none to accessory decoders, and these hear only packets to their kind
+pub record HearsItsKind : Type 0 where
+  pub mobile : (o : Own Mobile) (a : ℕ) → (mobile_rules.hears o target.Idle ≡ None) × (mobile_rules.hears o (target.Basic a) ≡ None) × (mobile_rules.hears o (target.Extended a) ≡ None)
+  pub basic : (o : Own Basic) (t : Target) (r : Role) → basic_rules.hears o t ≡ Some r → (a : ℕ) × (t ≡ target.Basic a)
+  pub extended : (o : Own Extended) (t : Target) (r : Role) → extended_rules.hears o t ≡ Some r → (a : ℕ) × (t ≡ target.Extended a)
+
 pub record Laws : Type 0 where
   pub mobiles : KindLaws mobile_rules
   pub basics : KindLaws basic_rules
@@ -129,3 +160,6 @@ pub record Laws : Type 0 where
   pub groups : GroupsSwitchTheirOwn
   pub light : LightByGroupOne
   pub functions : OthersKeepFunctions
+  pub own : HearsItsOwn
+  pub addresses : HasAnAddress
+  pub kinds : HearsItsKind

@@ -12,8 +12,8 @@ pub fn variables_persist()
     ensures { Persistence }
 {}
 
-/// What the rules come to: who keeps what, when a reply comes, what a reset and a consist change, which functions a
-/// group switches.
+/// What the rules come to: who hears what, who keeps what, when a reply comes, what a reset and a consist change, which
+/// functions a group switches.
 pub fn rules_keep()
     ensures { RulesKeep }
 {}

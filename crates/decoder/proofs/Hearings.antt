@@ -1,0 +1,64 @@
+-- Who hears what. Assumes nothing.
+use Rattle.std.proofs.Common.{◌≡◌, ℕ, ◌+◌, ◌/◌, ◌%◌, true, Some, None, Option, refl, ap, ◌∙◌, arith}
+use Rattle.std.proofs.lemmas.Bool.{cond-true, eq-eqb}
+use Rattle.std.proofs.lemmas.Bool.Decides.{nat_tests}
+use Rattle.packet.specs.declared.target.Target.{Target}
+use Rattle.packet.specs.declared.target.Target.TheVariants as target
+use Rattle.decoder.specs.declared.role.Address.{Address}
+use Rattle.decoder.specs.declared.role.Address.TheVariants as address
+use Rattle.decoder.specs.declared.role.Role.{Role}
+use Rattle.decoder.specs.declared.role.Role.TheVariants as role
+use Rattle.decoder.specs.Fresh.{Basic, Extended}
+use Rattle.decoder.specs.Alone.{Own, mobile_rules, basic_rules, extended_rules, mobile_view}
+use Rattle.decoder.specs.Fitted.{blank, mobile_defaults, mobile_variables, mobile_fitted}
+use Rattle.decoder.specs.Hearing.{own_address, is_short, is_long, mobile_role, by_accessory}
+use Rattle.decoder.specs.Laws.{HearsItsOwn, HasAnAddress, HearsItsKind, is_mobile_address, target_at}
+
+own_short : (a : ℕ) → is_mobile_address (address.Short a) ≡ true → own_address 2 a 192 0 ≡ Some (address.Short a)
+own_short a h = cond-true _ _ _ h
+
+own_long : (a : ℕ) → is_mobile_address (address.Long a) ≡ true → own_address 34 3 ((192 + a / 256) % 256) (a % 256) ≡ Some (address.Long a)
+own_long a h = grind (arith, nat_tests)
+
+by_short : (a : ℕ) (v : Option Address) → v ≡ Some (address.Short a) → is_short a v ≡ true
+by_short a v e = ap (is_short a) e ∙ eq-eqb a a refl
+
+by_long : (a : ℕ) (v : Option Address) → v ≡ Some (address.Long a) → is_long a v ≡ true
+by_long a v e = ap (is_long a) e ∙ eq-eqb a a refl
+
+short_heard : (a : ℕ) → is_mobile_address (address.Short a) ≡ true → mobile_role (mobile_view (mobile_variables (address.Short a)) None) (target.Short a) ≡ Some role.Own
+unfolding blank mobile_defaults mobile_variables
+short_heard a h = cond-true _ _ _ (by_short a _ (own_short a h))
+
+long_heard : (a : ℕ) → is_mobile_address (address.Long a) ≡ true → mobile_role (mobile_view (mobile_variables (address.Long a)) None) (target.Long a) ≡ Some role.Own
+unfolding blank mobile_defaults mobile_variables
+long_heard a h = cond-true _ _ _ (by_long a _ (own_long a h))
+
+heard_there : (own all : ℕ) → by_accessory own all own ≡ Some role.Own
+heard_there own all = cond-true _ _ _ (eq-eqb own own refl)
+
+pub hears_its_own : HearsItsOwn
+hears_its_own = record {
+  mobile = at;
+  basic = λ a. heard_there a 511;
+  extended = λ a. heard_there a 2047;
+}
+  where
+    at : (a : Address) → is_mobile_address a ≡ true → mobile_rules.hears (mobile_fitted a) (target_at a) ≡ Some role.Own
+    at (address.Short a) h = short_heard a h
+    at (address.Long a) h = long_heard a h
+
+pub has_an_address : HasAnAddress
+has_an_address config short high low (address.Short a) l e = grind (arith, nat_tests)
+has_an_address config short high low (address.Long a) l e = grind (arith, nat_tests)
+
+pub hears_its_kind : HearsItsKind
+hears_its_kind = record { mobile = λ o a. (refl, refl, refl); basic = basic; extended = extended }
+  where
+    basic : (o : Own Basic) (t : Target) (r : Role) → basic_rules.hears o t ≡ Some r → (a : ℕ) × (t ≡ target.Basic a)
+    basic o (target.Basic a) r e = (a, refl)
+    basic o t r e = cc
+
+    extended : (o : Own Extended) (t : Target) (r : Role) → extended_rules.hears o t ≡ Some r → (a : ℕ) × (t ≡ target.Extended a)
+    extended o (target.Extended a) r e = (a, refl)
+    extended o t r e = cc
