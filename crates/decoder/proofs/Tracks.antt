@@ -5,7 +5,7 @@ use Rattle.std.proofs.lemmas.Bool.{true≢false, false≢true, cases_lt}
 use Rattle.std.proofs.lemmas.Bool.Decides.{nat_tests}
 use Rattle.packet.specs.declared.instruction.FunctionGroup.TheVariants.{F0ToF4}
 use Rattle.packet.specs.declared.instruction.Instruction.{Instruction}
-use Rattle.packet.specs.declared.instruction.Instruction.TheVariants.{Reset, HardReset, Speed, Speed126, Functions, WriteByte, WriteBit}
+use Rattle.packet.specs.declared.instruction.Instruction.TheVariants.{Reset, HardReset, Speed, Speed126, Functions, VerifyByte, WriteByte, VerifyBit, WriteBit}
 use Rattle.packet.specs.declared.target.Target.{Target}
 use Rattle.packet.specs.Groups.{lowest_of, width_of}
 use Rattle.format.specs.Reading.{packet_read}
@@ -21,7 +21,7 @@ use Rattle.decoder.specs.declared.role.Role.{Role}
 use Rattle.decoder.specs.declared.role.Role.TheVariants as role
 use Rattle.decoder.specs.Accesses.{access_of, agrees, result, barred, writes_by, is_write, access_acts, accessed}
 use Rattle.decoder.specs.Accessories.{AccessoryKind, basic_kind, extended_kind}
-use Rattle.decoder.specs.Replies.{answer_of}
+use Rattle.decoder.specs.Replies.{answer_of, reply_after}
 use Rattle.decoder.specs.Mobiles.{access_effect, sped, with_functions}
 use Rattle.state.specs.declared.volatile.MobileState.{MobileState}
 use Rattle.state.specs.declared.scale.Scale.TheVariants.{Fourteen, TwentyEight}
@@ -29,7 +29,8 @@ use Rattle.decoder.specs.Alone.{Own, Rules, variable, named, applied, hearing, o
 use Rattle.decoder.specs.Alone.Event.{heard}
 use Rattle.decoder.proofs.Hearings.{hears_its_own, has_an_address, hears_its_kind}
 use Rattle.decoder.proofs.Sounds.{Apart, Sound, basic_sound, extended_sound}
-use Rattle.decoder.specs.Laws.{KindLaws, ReplyNeedsAll, ResetIsPowerUp, ByConsistOnlySpeed, GroupsSwitchTheirOwn, is_in_group, LightByGroupOne, OthersKeepFunctions, Laws}
+use Rattle.decoder.specs.declared.effect.Accessed.{Accessed}
+use Rattle.decoder.specs.Laws.{KindLaws, SilentByOwnVariable, ReplyNeedsAll, ResetIsPowerUp, ByConsistOnlySpeed, GroupsSwitchTheirOwn, is_in_group, LightByGroupOne, OthersKeepFunctions, Laws}
 
 module _ {X : Type 0} (m : Rules X) where
   unheard : (o : Own X) (bs : List ℕ) → hearing m o (packet_read bs) ≡ None → live m o (heard bs) ≡ o
@@ -72,11 +73,74 @@ accessory_first None a w p vars h e f = first_keeps 512 w p a vars e f
 accessory_first (Some y) None w p vars h e f = absurd (false≢true e)
 accessory_first (Some y) (Some a) w p vars h e f = absurd (true≢false h)
 
+-- a variable that is barred stays
+barred_at : (offset n : ℕ) → (n ≡ offset + 7) ⊎ (n ≡ offset + 8) → barred offset n ≡ true
+barred_at offset n h = ⊎_elim (λ e. grind (arith, nat_tests)) (λ e. grind (arith, nat_tests)) h
+
+barred_stays :
+    (offset : ℕ) (w : Option WaitingWrite) (p : WaitingWrite) (a : Access) (vars : List ℕ)
+    → (a.cv.number ≡ offset + 7) ⊎ (a.cv.number ≡ offset + 8)
+    → applied (cond (access_acts offset w p (accessed (Some a) (named vars (Some a)))) (access_effect (accessed (Some a) (named vars (Some a)))) None) vars ≡ vars
+barred_stays offset w p a vars h = go a.writes (matches w p) (barred offset a.cv.number) (agrees a.change v) (barred_at offset a.cv.number h)
+  where
+    v : ℕ
+    v = variable vars a.cv.number
+
+    go : (writes same bar said : Bool) → bar ≡ true → applied (cond (cond writes (same && not bar) said) (cond writes (Some (effect.Put a.cv (result a.change v))) None) None) vars ≡ vars
+    go false same bar true e = refl
+    go false same bar false e = refl
+    go true false bar said e = refl
+    go true true true said e = refl
+    go true true false said e = absurd (false≢true e)
+
+-- by the long form that an instruction is
+any_stays :
+    (offset : ℕ) (w : Option WaitingWrite) (p : WaitingWrite) (l : Option Access) (a : Access) (vars : List ℕ)
+    → l ≡ Some a
+    → (a.cv.number ≡ offset + 7) ⊎ (a.cv.number ≡ offset + 8)
+    → applied (cond (access_acts offset w p (accessed l (named vars l))) (access_effect (accessed l (named vars l))) None) vars ≡ vars
+any_stays offset w p l a vars e h = rw e (barred_stays offset w p a vars h)
+
+mobile_read_only : (o : Own Mobile) (r : Role) (bs : List ℕ) (i : Instruction) (a : Access) → access_of i ≡ Some a → (a.cv.number ≡ 0 + 7) ⊎ (a.cv.number ≡ 0 + 8) → (mobile_rules.obeys o r bs i).vars ≡ o.vars
+mobile_read_only o role.Consist bs (VerifyByte cv value) a e h = refl
+mobile_read_only o role.Consist bs (WriteByte cv value) a e h = refl
+mobile_read_only o role.Consist bs (VerifyBit cv bit value) a e h = refl
+mobile_read_only o role.Consist bs (WriteBit cv bit value) a e h = refl
+mobile_read_only o r bs (VerifyByte cv value) a e h = any_stays 0 o.rec.state.waiting (packed bs) (access_of (VerifyByte cv value)) a o.vars e h
+mobile_read_only o r bs (WriteByte cv value) a e h = any_stays 0 o.rec.state.waiting (packed bs) (access_of (WriteByte cv value)) a o.vars e h
+mobile_read_only o r bs (VerifyBit cv bit value) a e h = any_stays 0 o.rec.state.waiting (packed bs) (access_of (VerifyBit cv bit value)) a o.vars e h
+mobile_read_only o r bs (WriteBit cv bit value) a e h = any_stays 0 o.rec.state.waiting (packed bs) (access_of (WriteBit cv bit value)) a o.vars e h
+mobile_read_only o r bs i a e h = let z : ◌≡◌ {A = ℕ} 0 1 = cc in absurd (omega arith)
+
+accessory_read_only :
+    {Y : Type 0} (own : Option Y) (l : Option Access) (w : Option WaitingWrite) (p : WaitingWrite) (a : Access) (vars : List ℕ)
+    → Apart own l
+    → l ≡ Some a
+    → (a.cv.number ≡ 512 + 7) ⊎ (a.cv.number ≡ 512 + 8)
+    → applied (cond (is_some own || access_acts 512 w p (accessed l (named vars l))) (access_effect (accessed l (named vars l))) None) vars ≡ vars
+accessory_read_only None l w p a vars apart e h = any_stays 512 w p l a vars e h
+accessory_read_only (Some y) None w p a vars apart e h = refl
+accessory_read_only (Some y) (Some b) w p a vars apart e h = absurd (true≢false apart)
+
+-- the reply where none are enabled
+silent : (config : ℕ) (a : Option Accessed) (r : Role) (acted : Bool) → bit_of config 3 ≡ false → reply_after config a r acted ≡ None
+silent config a role.Everyone acted e = refl
+silent config a role.Consist acted e = refl
+silent config a role.Own acted e = ap (λ c. cond (c && acted) (Some (answer_of a)) None) e
+
+silent_by_own : SilentByOwnVariable
+silent_by_own = record {
+  mobile = λ o r bs i e. silent _ _ r _ e;
+  basic = λ o r bs i e. silent _ _ r _ e;
+  extended = λ o r bs i e. silent _ _ r _ e;
+}
+
 accessory_laws : {S : Type 0} (k : AccessoryKind S) → Sound k → KindLaws (accessory_rules k)
 accessory_laws k sound = record {
   unheard_keeps = unheard (accessory_rules k);
   one_role = one (accessory_rules k);
   first_waits = λ o r bs i e f. accessory_first (k.after o.rec.state.shown i) (access_of i) o.rec.state.waiting (packed bs) o.vars (sound.apart _ i) e f;
+  read_only = λ o r bs i a e h. accessory_read_only (k.after o.rec.state.shown i) (access_of i) o.rec.state.waiting (packed bs) a o.vars (sound.apart _ i) e h;
 }
 
 replies_need_all : ReplyNeedsAll
@@ -209,7 +273,7 @@ others_keep o r bs i e = either _ o.rec.state _ refl
 
 pub laws : Laws
 laws = record {
-  mobiles = record { unheard_keeps = unheard mobile_rules; one_role = one mobile_rules; first_waits = mobile_first };
+  mobiles = record { unheard_keeps = unheard mobile_rules; one_role = one mobile_rules; first_waits = mobile_first; read_only = mobile_read_only };
   basics = accessory_laws basic_kind basic_sound;
   extendeds = accessory_laws extended_kind extended_sound;
   replies = replies_need_all;
@@ -222,4 +286,5 @@ laws = record {
   own = hears_its_own;
   addresses = has_an_address;
   kinds = hears_its_kind;
+  silent = silent_by_own;
 }

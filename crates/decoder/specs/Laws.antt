@@ -19,14 +19,15 @@ use Rattle.decoder.specs.declared.role.Address.{Address}
 use Rattle.decoder.specs.declared.role.Address.TheVariants as address
 use Rattle.decoder.specs.declared.role.Role.{Role}
 use Rattle.decoder.specs.declared.role.Role.TheVariants as role
+use Rattle.decoder.specs.declared.effect.Access.{Access}
 use Rattle.decoder.specs.declared.effect.Accessed.{Accessed}
-use Rattle.decoder.specs.Accesses.{is_write}
+use Rattle.decoder.specs.Accesses.{access_of, is_write}
 use Rattle.decoder.specs.Fresh.{Basic, Extended}
 use Rattle.decoder.specs.Fitted.{mobile_fitted, basic_fitted, extended_fitted}
 use Rattle.decoder.specs.Hearing.{own_address}
 use Rattle.decoder.specs.Replies.{reply_after}
 use Rattle.decoder.specs.Mobiles.{is_speed, mobile_noted}
-use Rattle.decoder.specs.Alone.{Own, Rules, hearing, live, mobile_rules, basic_rules, extended_rules}
+use Rattle.decoder.specs.Alone.{Own, Rules, variable, hearing, live, mobile_rules, basic_rules, extended_rules}
 use Rattle.decoder.specs.Alone.Event.{heard}
 
 -- of a kind of decoder
@@ -37,6 +38,14 @@ pub record KindLaws {X : Type 0} (m : Rules X) : Type 0 where
   pub one_role : (o : Own X) (t : Target) (r s : Role) → m.hears o t ≡ Some r → m.hears o t ≡ Some s → r ≡ s
   -- a long-form write never changes a variable at its first packet
   pub first_waits : (o : Own X) (r : Role) (bs : List ℕ) (i : Instruction) → is_write i ≡ true → matches (m.waiting o.rec) (packed bs) ≡ false → (m.obeys o r bs i).vars ≡ o.vars
+  -- a long form that names the seventh or the eighth of the kind's own variables changes no variable
+  pub read_only : (o : Own X) (r : Role) (bs : List ℕ) (i : Instruction) (a : Access) → access_of i ≡ Some a → (a.cv.number ≡ m.offset + 7) ⊎ (a.cv.number ≡ m.offset + 8) → (m.obeys o r bs i).vars ≡ o.vars
+
+-- no decoder replies while bit 3 of the 29th of its kind's own variables is zero
+pub record SilentByOwnVariable : Type 0 where
+  pub mobile : (o : Own Mobile) (r : Role) (bs : List ℕ) (i : Instruction) → bit_of (variable o.vars (mobile_rules.offset + 29)) 3 ≡ false → (mobile_rules.obeys o r bs i).rec.state.reply ≡ None
+  pub basic : (o : Own Basic) (r : Role) (bs : List ℕ) (i : Instruction) → bit_of (variable o.vars (basic_rules.offset + 29)) 3 ≡ false → (basic_rules.obeys o r bs i).rec.state.reply ≡ None
+  pub extended : (o : Own Extended) (r : Role) (bs : List ℕ) (i : Instruction) → bit_of (variable o.vars (extended_rules.offset + 29)) 3 ≡ false → (extended_rules.obeys o r bs i).rec.state.reply ≡ None
 
 -- the reply is none unless the packet came to the own address, replies were enabled, and the instruction acted
 abbrev pub ReplyNeedsAll : Type 0
@@ -163,3 +172,4 @@ pub record Laws : Type 0 where
   pub own : HearsItsOwn
   pub addresses : HasAnAddress
   pub kinds : HearsItsKind
+  pub silent : SilentByOwnVariable
