@@ -5,3 +5,4 @@ pub mod Lawfuls
 pub mod Tracks
 pub mod Fittings
 pub mod Hearings
+pub mod States

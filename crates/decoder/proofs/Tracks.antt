@@ -28,6 +28,7 @@ use Rattle.state.specs.declared.scale.Scale.TheVariants.{Fourteen, TwentyEight}
 use Rattle.decoder.specs.Alone.{Own, Rules, variable, named, applied, hearing, obeyed, live, mobile_rules, accessory_rules}
 use Rattle.decoder.specs.Alone.Event.{heard}
 use Rattle.decoder.proofs.Hearings.{hears_its_own, has_an_address, hears_its_kind}
+use Rattle.decoder.proofs.States.{states_switch_one}
 use Rattle.decoder.proofs.Sounds.{Apart, Sound, basic_sound, extended_sound}
 use Rattle.decoder.specs.declared.effect.Accessed.{Accessed}
 use Rattle.decoder.specs.Laws.{KindLaws, SilentByOwnVariable, ReplyNeedsAll, ResetIsPowerUp, ByConsistOnlySpeed, GroupsSwitchTheirOwn, is_in_group, LightByGroupOne, OthersKeepFunctions, Laws}
@@ -287,4 +288,5 @@ laws = record {
   addresses = has_an_address;
   kinds = hears_its_kind;
   silent = silent_by_own;
+  states = states_switch_one;
 }

@@ -11,6 +11,7 @@ use Rattle.format.specs.Reading.{packet_read}
 use Rattle.state.specs.declared.step.Step.{Step}
 use Rattle.state.specs.Bits.{bit_of}
 use Rattle.state.specs.Groups.{switched}
+use Rattle.state.specs.Kept.{kept_after, state_at}
 use Rattle.state.specs.Packing.{packed, matches}
 use Rattle.state.specs.Scales.{top}
 use Rattle.state.specs.Starting.{mobile_start}
@@ -158,6 +159,14 @@ pub record HearsItsKind : Type 0 where
   pub basic : (o : Own Basic) (t : Target) (r : Role) → basic_rules.hears o t ≡ Some r → (a : ℕ) × (t ≡ target.Basic a)
   pub extended : (o : Own Extended) (t : Target) (r : Role) → extended_rules.hears o t ≡ Some r → (a : ℕ) × (t ≡ target.Extended a)
 
+-- the binary states that are kept are 1 to 2047; after one of them is switched it is as told, and every other as it was
+pub record StatesSwitchOne : Type 0 where
+  pub kept : (bits : List ℕ) (n : ℕ) → 1 ≤ n → n ≤ 2047 → (on : Bool) × (state_at bits n ≡ Some on)
+  pub none : (bits : List ℕ) → state_at bits 0 ≡ None
+  pub beyond : (bits : List ℕ) (n : ℕ) → 2048 ≤ n → state_at bits n ≡ None
+  pub same : (bits : List ℕ) (n : ℕ) (on : Bool) → length bits ≡ 256 → 1 ≤ n → n ≤ 2047 → state_at (kept_after bits n on) n ≡ Some on
+  pub others : (bits : List ℕ) (n m : ℕ) (on : Bool) → length bits ≡ 256 → m ≢ n → state_at (kept_after bits n on) m ≡ state_at bits m
+
 pub record Laws : Type 0 where
   pub mobiles : KindLaws mobile_rules
   pub basics : KindLaws basic_rules
@@ -173,3 +182,4 @@ pub record Laws : Type 0 where
   pub addresses : HasAnAddress
   pub kinds : HearsItsKind
   pub silent : SilentByOwnVariable
+  pub states : StatesSwitchOne
