@@ -10,7 +10,7 @@ use Rattle.block.specs.Contents.Thing.{fill, power_up, packet}
 use Rattle.block.specs.Reading.{reading, carried}
 use Rattle.block.specs.Summing.{summed, surveyed, packet_count, power_up_count}
 use Rattle.block.specs.Tiling.{Tiles}
-use Rattle.block.specs.Laws.{packets_among, HandsOutEach, CountsEach, Laws}
+use Rattle.block.specs.Laws.{packets_among, HandsOutEach, CountsEach, PacketsAgree}
 use Rattle.block.proofs.Handings.{packets, places}
 use Rattle.block.proofs.Tilings.{sound}
 
@@ -48,5 +48,5 @@ counts_each b s e =
     let u : s.power_ups ≡ power_up_count (carried (reading b)) = ap (λ (t : Survey). t.power_ups) is in
     (p ∙ counted (carried (reading b)), omega (arith, p, u, all_counted b (carried (reading b)) 0 _ (sound b).0))
 
-pub laws : Laws
+pub laws : PacketsAgree
 laws = record { hands_out = hands_out_each; counts = counts_each }

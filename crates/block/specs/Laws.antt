@@ -30,6 +30,6 @@ HandsOutEach = (b : List ℕ) (n : ℕ) → is_block_length (length b) ≡ true 
 abbrev pub CountsEach : Type 0
 CountsEach = (b : List ℕ) (s : Survey) → surveyed b ≡ Ok s → (s.packets ≡ length (packets_of b)) × (s.packets + s.power_ups ≡ length (carried (reading b)))
 
-pub record Laws : Type 0 where
+pub record PacketsAgree : Type 0 where
   pub hands_out : HandsOutEach
   pub counts : CountsEach

@@ -1,6 +1,6 @@
-ghost use Rattle.block.specs.Laws.{Laws};
+ghost use Rattle.block.specs.Laws.{PacketsAgree};
 
 /// What a survey counts is what is handed out: the packets that a block carries, each once.
 pub fn blocks_agree()
-    ensures { Laws }
+    ensures { PacketsAgree }
 {}
