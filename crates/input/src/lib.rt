@@ -1,20 +1,22 @@
-//! Reading what a program is given on standard input.
+//! Reading what a program is given.
 
 #![tactic(auto)]
 
-ghost use Rattle.std.specs.Prelude.{◌≤◌, length, IfOk};
+ghost use Rattle.std.specs.Prelude.{◌<◌, ◌≤◌, length, take, IfOk};
+ghost use Rattle.std.specs.Io.KnownBytes.{Consumes, IsAtEnd};
 
 use std::io;
 use std::io::Read;
 
-/// Fills the place from standard input, and answers how many bytes there were; what finds no room is not read.
-pub fn read_up_to(rt: &HostRuntime, place: &mut [u8]) -> io::Result<usize>
-    ensures { IfOk result (λ n. n ≤ length place.new) }
+/// Fills the place from the input, and answers how many bytes there were; what finds no room is not read.
+pub fn read_up_to<R: Read>(input: &mut R, place: &mut [u8]) -> io::Result<usize>
+    ensures room { IfOk result (λ n. n ≤ length place.new) }
+    ensures bytes { IfOk result (λ n. Consumes (R.Read.remaining input.old) (R.Read.remaining input.new) (take n place.new)) }
+    ensures end { IfOk result (λ n. n < length place.new → IsAtEnd (R.Read.remaining input.new)) }
 {
     // No `read_to_end`: the place is lent, there is no heap, and an input may have no end.
     let mut count = 0;
-    let mut input = rt.stdin();
-    for _ in 0..place.len() {
+    while count < place.len() {
         let more = input.read(&mut place[count..])?;
         if more == 0 {
             break;

@@ -29,7 +29,7 @@ fn list(rt: &HostRuntime, block: &[u8]) -> anyhow::Result<()> {
 fn run(rt: &HostRuntime) -> anyhow::Result<()> {
     // One byte more than a block may have, so that a longer input is seen to be one.
     let mut bytes = [0u8; 513];
-    let count = read_up_to(rt, &mut bytes)?;
+    let count = read_up_to(&mut rt.stdin(), &mut bytes)?;
     list(rt, &bytes[0..count])
 }
 
