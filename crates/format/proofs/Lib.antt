@@ -4,3 +4,4 @@ pub mod Placed
 pub mod Refused
 pub mod Returns
 pub mod Rounds
+pub mod Unwritten

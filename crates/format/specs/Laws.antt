@@ -1,11 +1,12 @@
--- Reading and writing undo each other.
-use Rattle.std.specs.Prelude.{◌≡◌, ℕ, List, take, Ok, Result}
+-- Reading and writing undo each other, and why a packet is not written.
+use Rattle.std.specs.Prelude.{◌≡◌, ℕ, ◌<◌, List, length, take, Ok, Err, Result}
 use Rattle.fault.specs.declared.refusal.Refusal.{Refusal}
+use Rattle.fault.specs.declared.refusal.Refusal.TheVariants.{FieldOutOfRange, PlaceTooShort}
 use Rattle.packet.specs.declared.target.Target.{Target}
 use Rattle.packet.specs.declared.instruction.Instruction.{Instruction}
 use Rattle.packet.specs.declared.packet.Packet.{Packet}
 use Rattle.format.specs.Reading.{Told, packet_of, packet_read}
-use Rattle.format.specs.Writing.{encoded}
+use Rattle.format.specs.Writing.{Coded, encoded}
 
 -- r is an answer to the bytes: what it accepts is written back to the bytes themselves
 abbrev pub WrittenBack : List ℕ → Told → Type 0
@@ -18,3 +19,12 @@ AllAccepted bs r = (t : Target) (i : Instruction) → encoded t i ≡ Ok bs → 
 -- what was written to the front of a place reads as itself
 abbrev pub ReadsBack : Target → Instruction → Result ℕ Refusal → List ℕ → Type 0
 ReadsBack t i r place = (n : ℕ) → r ≡ Ok n → packet_read (take n place) ≡ Ok (packet_of t i)
+
+-- why a packet is not put into a place: its target or its instruction has no bytes, or they are more than the place has
+abbrev pub IsWhy : Coded → List ℕ → Refusal → Type 0
+IsWhy (Ok bs) place e = (length place < length bs) × (e ≡ PlaceTooShort)
+IsWhy (Err d) place e = e ≡ FieldOutOfRange
+
+-- so a write is refused with 20 or 21 alone, and with 21 only where the place is too short
+abbrev pub Unwritten : Target → Instruction → List ℕ → Result ℕ Refusal → Type 0
+Unwritten t i place r = (e : Refusal) → r ≡ Err e → IsWhy (encoded t i) place e

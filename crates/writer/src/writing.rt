@@ -1,6 +1,6 @@
 ghost use Rattle.std.specs.Prelude.{◌≡◌, ◌+◌, ◌≤◌, ◌++◌, length, drop, Ok};
 ghost use Rattle.packet.specs.Parity.{sealed};
-ghost use Rattle.format.specs.Laws.{ReadsBack};
+ghost use Rattle.format.specs.Laws.{ReadsBack, Unwritten};
 ghost use Rattle.format.specs.Writing.{encoded, answer, after};
 
 use crate::body::body;
@@ -51,6 +51,7 @@ pub fn write(packet: Packet, place: &mut [u8]) -> Result<usize, Refusal>
     ensures answered { result ≡ answer (encoded packet.target packet.instruction) place.old }
     ensures placed { place.new ≡ after (encoded packet.target packet.instruction) place.old }
     ensures reads_back { ReadsBack packet.target packet.instruction result place.new }
+    ensures refused { Unwritten packet.target packet.instruction place.old result }
 {
     encode(packet, place)
 }
