@@ -6,3 +6,4 @@ pub mod Tracks
 pub mod Fittings
 pub mod Hearings
 pub mod States
+pub mod Consists

@@ -27,6 +27,7 @@ use Rattle.state.specs.declared.volatile.MobileState.{MobileState}
 use Rattle.state.specs.declared.scale.Scale.TheVariants.{Fourteen, TwentyEight}
 use Rattle.decoder.specs.Alone.{Own, Rules, variable, named, applied, hearing, obeyed, live, mobile_rules, accessory_rules}
 use Rattle.decoder.specs.Alone.Event.{heard}
+use Rattle.decoder.proofs.Consists.{hard_resets, speed_in_consist}
 use Rattle.decoder.proofs.Hearings.{hears_its_own, has_an_address, hears_its_kind}
 use Rattle.decoder.proofs.States.{states_switch_one}
 use Rattle.decoder.proofs.Sounds.{Apart, Sound, basic_sound, extended_sound}
@@ -279,7 +280,9 @@ laws = record {
   extendeds = accessory_laws extended_kind extended_sound;
   replies = replies_need_all;
   resets = reset_is_power_up;
+  hard_resets = hard_resets;
   consists = only_speed;
+  speeds = speed_in_consist;
   scales = λ s. s.within;
   groups = groups_switch;
   light = light_by_one;

@@ -1,5 +1,5 @@
 -- What the rules come to, in the words of the track.
-use Rattle.std.specs.Prelude.{◌≡◌, ℕ, ◌+◌, ◌-◌, ◌<◌, ◌≤◌, Bool, true, false, cond, ◌&&◌, ◌⊎◌, List, length, Some, None, Option, ◌≢◌, nat_le, nat_lt, slice_index_or}
+use Rattle.std.specs.Prelude.{◌≡◌, ℕ, ◌+◌, ◌-◌, ◌<◌, ◌≤◌, Bool, true, false, cond, not, ◌&&◌, ◌⊎◌, List, length, Some, None, Option, ◌≢◌, nat_le, nat_lt, slice_index_or}
 use Rattle.packet.specs.declared.instruction.FunctionGroup.{FunctionGroup}
 use Rattle.packet.specs.declared.instruction.FunctionGroup.TheVariants.{F0ToF4, F5ToF8, F9ToF12, F13ToF20, F21ToF28, F29ToF36, F37ToF44, F45ToF52, F53ToF60, F61ToF68}
 use Rattle.packet.specs.declared.instruction.Instruction.{Instruction}
@@ -28,7 +28,7 @@ use Rattle.decoder.specs.Fitted.{mobile_fitted, basic_fitted, extended_fitted}
 use Rattle.decoder.specs.Hearing.{own_address}
 use Rattle.decoder.specs.Replies.{reply_after}
 use Rattle.decoder.specs.Mobiles.{is_speed, mobile_noted}
-use Rattle.decoder.specs.Alone.{Own, Rules, variable, hearing, live, mobile_rules, basic_rules, extended_rules}
+use Rattle.decoder.specs.Alone.{Own, Rules, own, variable, hearing, live, mobile_rules, basic_rules, extended_rules}
 use Rattle.decoder.specs.Alone.Event.{heard}
 
 -- of a kind of decoder
@@ -60,6 +60,25 @@ ResetIsPowerUp =
     (o : Own Mobile) (r : Role) (bs : List ℕ) → (r ≢ role.Consist)
     → ((mobile_rules.obeys o r bs Reset).vars ≡ o.vars)
     × ((mobile_rules.obeys o r bs Reset).rec.state ≡ mobile_noted mobile_start None (mobile_rules.obeys o r bs Reset).rec.state.reply)
+
+-- a hard reset does that too, and leaves variables 19, 29, 31 and 32 at 0, 2, 16 and 0 and every other as it was
+pub record HardResetLeaves (o after : Own Mobile) : Type 0 where
+  pub state : after.rec.state ≡ mobile_noted mobile_start None after.rec.state.reply
+  pub cv19 : variable after.vars 19 ≡ 0
+  pub cv29 : variable after.vars 29 ≡ 2
+  pub cv31 : variable after.vars 31 ≡ 16
+  pub cv32 : variable after.vars 32 ≡ 0
+  pub others : (n : ℕ) → 1 ≤ n → n ≢ 19 → n ≢ 29 → n ≢ 31 → n ≢ 32 → variable after.vars n ≡ variable o.vars n
+
+abbrev pub HardResets : Type 0
+HardResets = (o : Own Mobile) (r : Role) (bs : List ℕ) → length o.vars ≡ 1024 → (r ≢ role.Consist) → HardResetLeaves o (mobile_rules.obeys o r bs HardReset)
+
+-- a decoder that hears some address as that of its consist ignores speed to its own, and nothing changes but that a wait
+-- ends and the reply is none; speed by the consist address is turned by bit 7 of variable 19
+pub record SpeedInConsist : Type 0 where
+  pub ignored : (o : Own Mobile) (a : ℕ) (bs : List ℕ) (i : Instruction) → mobile_rules.hears o (target.Short a) ≡ Some role.Consist → is_speed i ≡ true → mobile_rules.obeys o role.Own bs i ≡ own (record { state = mobile_noted o.rec.state None None }) o.vars
+  pub turned : (o : Own Mobile) (bs : List ℕ) (forward : Bool) (code : ℕ) → (mobile_rules.obeys o role.Consist bs (Speed forward code)).rec.state.forward ≡ cond (bit_of (variable o.vars 19) 7) (not forward) forward
+  pub turned126 : (o : Own Mobile) (bs : List ℕ) (forward : Bool) (code : ℕ) → (mobile_rules.obeys o role.Consist bs (Speed126 forward code)).rec.state.forward ≡ cond (bit_of (variable o.vars 19) 7) (not forward) forward
 
 -- by the consist address nothing but speed changes, and with it FL in 14 steps
 pub record OnlySpeed (o after : Own Mobile) (i : Instruction) : Type 0 where
@@ -173,7 +192,9 @@ pub record Laws : Type 0 where
   pub extendeds : KindLaws extended_rules
   pub replies : ReplyNeedsAll
   pub resets : ResetIsPowerUp
+  pub hard_resets : HardResets
   pub consists : ByConsistOnlySpeed
+  pub speeds : SpeedInConsist
   pub scales : StepsInScale
   pub groups : GroupsSwitchTheirOwn
   pub light : LightByGroupOne

@@ -1,0 +1,91 @@
+-- What a hard reset leaves, and speed in a consist. Assumes nothing.
+use Rattle.std.proofs.Common.{◌≡◌, ℕ, ◌-◌, ◌%◌, Bool, true, false, cond, not, ◌&&◌, eqb, ◌≢◌, List, length, get_or, set, Some, None, Option, refl, ◌∙◌, arith, length-set, get_or-set_same, get_or-set_other}
+use Rattle.std.proofs.lemmas.Bool.{false≢true}
+use Rattle.std.proofs.lemmas.Bool.Decides.{nat_tests}
+use Rattle.packet.specs.declared.instruction.Instruction.{Instruction}
+use Rattle.packet.specs.declared.instruction.Instruction.TheVariants.{Speed, Speed126}
+use Rattle.packet.specs.declared.target.Target.TheVariants as target
+use Rattle.state.specs.declared.scale.Scale.TheVariants.{Fourteen, TwentyEight}
+use Rattle.state.specs.declared.volatile.MobileState.{MobileState}
+use Rattle.state.specs.Groups.{lit}
+use Rattle.state.specs.Starting.{mobile_start}
+use Rattle.decoder.specs.declared.records.Mobile.{Mobile}
+use Rattle.decoder.specs.declared.role.Address.{Address}
+use Rattle.decoder.specs.declared.role.Role.TheVariants as role
+use Rattle.decoder.specs.Hearing.{is_short, is_consist}
+use Rattle.decoder.specs.Mobiles.{is_speed, sped, with_functions, mobile_noted}
+use Rattle.decoder.specs.Alone.{Own, own, variable, mobile_view, mobile_rules}
+use Rattle.decoder.specs.Laws.{HardResetLeaves, HardResets, SpeedInConsist}
+
+module _ (vars : List ℕ) (l : length vars ≡ 1024) where
+  abbrev after19 : List ℕ
+  after19 = set vars 18 0
+
+  abbrev after29 : List ℕ
+  after29 = set after19 28 2
+
+  abbrev after31 : List ℕ
+  after31 = set after29 30 16
+
+  abbrev after32 : List ℕ
+  after32 = set after31 31 0
+
+  long29 : length after19 ≡ 1024
+  long29 = length-set vars 18 0 ∙ l
+
+  long31 : length after29 ≡ 1024
+  long31 = length-set after19 28 2 ∙ long29
+
+  long32 : length after31 ≡ 1024
+  long32 = length-set after29 30 16 ∙ long31
+
+  at19 : get_or after32 18 0 ≡ 0
+  at19 = get_or-set_other after31 31 18 0 0 (omega arith) ∙ get_or-set_other after29 30 18 16 0 (omega arith) ∙ get_or-set_other after19 28 18 2 0 (omega arith) ∙ get_or-set_same vars 18 0 0 (omega (arith, l))
+
+  at29 : get_or after32 28 0 ≡ 2
+  at29 = get_or-set_other after31 31 28 0 0 (omega arith) ∙ get_or-set_other after29 30 28 16 0 (omega arith) ∙ get_or-set_same after19 28 2 0 (omega (arith, long29))
+
+  at31 : get_or after32 30 0 ≡ 16
+  at31 = get_or-set_other after31 31 30 0 0 (omega arith) ∙ get_or-set_same after29 30 16 0 (omega (arith, long31))
+
+  at32 : get_or after32 31 0 ≡ 0
+  at32 = get_or-set_same after31 31 0 0 (omega (arith, long32))
+
+  elsewhere : (k : ℕ) → k ≢ 18 → k ≢ 28 → k ≢ 30 → k ≢ 31 → get_or after32 k 0 ≡ get_or vars k 0
+  elsewhere k a b c d = get_or-set_other after31 31 k 0 0 d ∙ get_or-set_other after29 30 k 16 0 c ∙ get_or-set_other after19 28 k 2 0 b ∙ get_or-set_other vars 18 k 0 0 a
+
+leaves : (o : Own Mobile) (s : MobileState) (l : length o.vars ≡ 1024) → s ≡ mobile_noted mobile_start None s.reply → HardResetLeaves o (own (record { state = s }) (after32 o.vars l))
+leaves o s l e =
+    record {
+      state = e;
+      cv19 = at19 o.vars l;
+      cv29 = at29 o.vars l;
+      cv31 = at31 o.vars l;
+      cv32 = at32 o.vars l;
+      others = λ n h a b c d. elsewhere o.vars l (n - 1) (λ f. a (omega arith)) (λ f. b (omega arith)) (λ f. c (omega arith)) (λ f. d (omega arith));
+    }
+
+pub hard_resets : HardResets
+hard_resets o role.Everyone bs l n = leaves o _ l refl
+hard_resets o role.Own bs l n = leaves o _ l refl
+hard_resets o role.Consist bs l n = absurd (n refl)
+
+-- an address that is heard as the consist's is not the own, and the consist has it
+in_it : (a consist : ℕ) (own : Option Address) → cond (is_short a own) (Some role.Own) (cond (is_consist a consist) (Some role.Consist) None) ≡ Some role.Consist → (not (eqb (consist % 128) 0) && not (is_short (consist % 128) own)) ≡ true
+in_it a consist own h = grind (arith, nat_tests)
+
+ignored : (o : Own Mobile) (a : ℕ) (bs : List ℕ) (i : Instruction) → mobile_rules.hears o (target.Short a) ≡ Some role.Consist → is_speed i ≡ true → mobile_rules.obeys o role.Own bs i ≡ own (record { state = mobile_noted o.rec.state None None }) o.vars
+ignored o a bs (Speed forward code) h e = let c = in_it a (variable o.vars 19) (mobile_view o.vars None).own h in grind (arith, nat_tests)
+ignored o a bs (Speed126 forward code) h e = let c = in_it a (variable o.vars 19) (mobile_view o.vars None).own h in grind (arith, nat_tests)
+ignored o a bs i h e = absurd (false≢true e)
+
+short_forward : (s : MobileState) (c forward : Bool) (code : ℕ) → (cond c (sped s TwentyEight forward code) (with_functions (sped s Fourteen forward code) (record { on = lit s.functions.on code }))).forward ≡ forward
+short_forward s true forward code = refl
+short_forward s false forward code = refl
+
+pub speed_in_consist : SpeedInConsist
+speed_in_consist = record {
+  ignored = ignored;
+  turned = λ o bs forward code. short_forward o.rec.state _ _ code;
+  turned126 = λ o bs forward code. refl;
+}
