@@ -18,7 +18,7 @@ pub struct Plan {
     pub blocks: usize,
     pub scripts: usize,
     pub captures: usize,
-    /// Off unless asked for: the words of `listing` are documented by an example only.
+    /// Off unless asked for.
     pub listings: usize,
     pub seed: u64,
 }
