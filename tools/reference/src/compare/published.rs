@@ -14,6 +14,19 @@ impl Example {
             Example::Bench { block, .. } => hex(block),
         }
     }
+
+    /// The blocks that it has a board take.
+    pub fn blocks(&self) -> Vec<Vec<u8>> {
+        let bytes = |words: &str| {
+            words.split_whitespace().map(|word| u8::from_str_radix(word, 16).expect("a table has bytes")).collect()
+        };
+        match self {
+            Example::Script { text, .. } => {
+                text.lines().filter_map(|line| line.strip_prefix("take ")).map(bytes).collect()
+            }
+            Example::Bench { block, .. } => vec![block.clone()],
+        }
+    }
 }
 
 const FITTINGS: &str =

@@ -255,11 +255,22 @@ fn case_text(case: &Case) -> String {
     text
 }
 
+/// Whether `listing` says of a block of the table what the reference says.
+fn is_listed(lister: &Program, plan: &Plan, index: usize, block: &[u8]) -> bool {
+    let answer = lister.run(&[], block);
+    let expected = Answer::of(&listing::lines(block), true);
+    let agree = answer.output == expected.output;
+    if !agree {
+        show("published", plan, index, &script::hex(block), &answer, &expected);
+    }
+    agree
+}
+
 /// The published packets, whose answers stand in the table and are not worked out by the reference.
 pub fn published(plan: &Plan) -> Report {
-    let bench = match Program::find(&plan.programs, "bench") {
-        Ok(bench) => bench,
-        Err(trouble) => {
+    let (bench, lister) = match (Program::find(&plan.programs, "bench"), Program::find(&plan.programs, "listing")) {
+        (Ok(bench), Ok(lister)) => (bench, lister),
+        (Err(trouble), _) | (_, Err(trouble)) => {
             return Report { name: "published", compared: 0, differ: 0, trouble: Some(trouble) };
         }
     };
@@ -279,6 +290,6 @@ pub fn published(plan: &Plan) -> Report {
         if !agree {
             show("published", plan, index, &example.input(), &answer, &expected);
         }
-        agree
+        agree & example.blocks().iter().all(|block| is_listed(&lister, plan, index, block))
     })
 }
