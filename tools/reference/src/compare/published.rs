@@ -17,9 +17,6 @@ impl Example {
 
     /// The blocks that it has a board take.
     pub fn blocks(&self) -> Vec<Vec<u8>> {
-        let bytes = |words: &str| {
-            words.split_whitespace().map(|word| u8::from_str_radix(word, 16).expect("a table has bytes")).collect()
-        };
         match self {
             Example::Script { text, .. } => {
                 text.lines().filter_map(|line| line.strip_prefix("take ")).map(bytes).collect()
