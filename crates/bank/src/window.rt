@@ -32,12 +32,10 @@ impl<'a, M: Memory> Window<'a, M> {
     ghost use Rattle.bank.specs.Windows.{HasWindow};
     ghost use Rattle.bank.specs.Opened.{variables, Unchanged, Became};
 
-    /// The window of the slot.
-    ///
-    /// An inner call of the board, which sees to it that the memory holds the window.
+    /// The window of the slot, which the memory holds: whoever opens one has looked. So nobody outside can call it.
     // Tried: an `Option<Window>` with no `requires`, but that the memory stays at `None` (`RestsIfNone`) gets no
     // generated proof.
-    pub fn new(memory: &'a mut M, slot: usize) -> Window<'a, M>
+    pub(crate) fn new(memory: &'a mut M, slot: usize) -> Window<'a, M>
         requires { HasWindow slot (M.Memory.cells memory.old) }
         ensures holds { result.memory.now ≡ memory.old }
         ensures lender { result.memory.ghost_name ≡ memory.entry.ghost_name }
