@@ -15,6 +15,12 @@ impl Example {
         }
     }
 
+    pub fn answers(&self) -> &[String] {
+        match self {
+            Example::Script { answers, .. } | Example::Bench { answers, .. } => answers,
+        }
+    }
+
     /// The blocks that it has a board take.
     pub fn blocks(&self) -> Vec<Vec<u8>> {
         match self {

@@ -7,10 +7,11 @@ use super::captures::{self, Capture, Case};
 use super::coverage::Coverage;
 use super::packets::{self, Air};
 use super::program::{Answer, Program};
+use super::published::{self, Example};
 use super::random::Random;
 use super::scripts;
 use super::shrink::{shrink, shrink_block, Budget};
-use super::{published, Plan, Report};
+use super::{Plan, Report};
 use crate::script::{Call, Line};
 use crate::{bench, listing, script, twin};
 
@@ -47,12 +48,27 @@ fn covered(mut report: Report, enough: usize, coverage: &Coverage) -> Report {
     report
 }
 
-fn show(set: &str, plan: &Plan, case: usize, input: &str, program: &Answer, reference: &Answer) {
-    let told = |success| if success { "success" } else { "failure" };
-    println!("difference in {set}, seed {}, case {case}", plan.seed);
-    println!("input:\n{}", input.trim_end());
-    println!("program ({}):\n{}", told(program.success), program.output.trim_end());
-    println!("reference ({}):\n{}\n", told(reference.success), reference.output.trim_end());
+/// Where an input comes from, for those who look for it again.
+#[derive(Clone, Copy)]
+struct Origin {
+    set: &'static str,
+    seed: u64,
+    case: usize,
+}
+
+impl Origin {
+    /// Shows a difference between a program and the reference.
+    fn show(self, input: &str, program: &Answer, reference: &Answer) {
+        self.show_against("reference", input, program, reference);
+    }
+
+    fn show_against(self, other: &str, input: &str, program: &Answer, expected: &Answer) {
+        let told = |success| if success { "success" } else { "failure" };
+        println!("difference in {}, seed {}, case {}", self.set, self.seed, self.case);
+        println!("input:\n{}", input.trim_end());
+        println!("program ({}):\n{}", told(program.success), program.output.trim_end());
+        println!("{other} ({}):\n{}\n", told(expected.success), expected.output.trim_end());
+    }
 }
 
 pub fn blocks(plan: &Plan) -> Report {
@@ -63,24 +79,31 @@ pub fn listings(plan: &Plan) -> Report {
     block_set("listings", "listing", plan, plan.listings, listing::lines)
 }
 
-/// The sets whose input is one block. The documents do not say how such a program ends, so only the output counts.
-fn block_set(name: &'static str, program: &str, plan: &Plan, count: usize, lines: fn(&[u8]) -> Vec<String>) -> Report {
-    let expected = |block: &[u8]| Answer::of(&lines(block), true);
+/// What the reference makes of a block.
+type Lines = fn(&[u8]) -> Vec<String>;
+
+/// The sets whose input is one block.
+fn block_set(name: &'static str, program: &str, plan: &Plan, count: usize, lines: Lines) -> Report {
     let mut coverage = Coverage::of_blocks();
     let report = set(name, count, Program::find(&plan.programs, program), &mut |program, case| {
         let mut random = Random::for_case(plan.seed, name, case);
         let block = packets::block(&mut random, &Air::of_bench(), 12);
         coverage.block(&block);
-        let mut differs = |block: &[u8]| program.run(&[], block).output != expected(block).output;
-        if !differs(&block) {
-            return true;
-        }
-        let block = shrink_block(&block, &mut Budget::new(), &mut differs);
-        let answer = program.run(&[], &block);
-        show(name, plan, case, &script::hex(&block), &answer, &expected(&block));
-        false
+        block_agrees(Origin { set: name, seed: plan.seed, case }, program, lines, &block)
     });
     covered(report, 1000, &coverage)
+}
+
+/// Whether a program says of a block what the reference says; else the difference is shown.
+fn block_agrees(origin: Origin, program: &Program, lines: Lines, block: &[u8]) -> bool {
+    let expected = |block: &[u8]| Answer::of(&lines(block), true);
+    let mut differs = |block: &[u8]| program.run(&[], block) != expected(block);
+    if !differs(block) {
+        return true;
+    }
+    let block = shrink_block(block, &mut Budget::new(), &mut differs);
+    origin.show(&script::hex(&block), &program.run(&[], &block), &expected(&block));
+    false
 }
 
 fn script_text(lines: &[String]) -> String {
@@ -97,17 +120,21 @@ pub fn scripts(plan: &Plan) -> Report {
     let report = set("scripts", plan.scripts, Program::find(&plan.programs, "rig"), &mut |rig, case| {
         let mut random = Random::for_case(plan.seed, "scripts", case);
         let lines = scripts::script(&mut random);
-        let text = script_text(&lines);
-        let expected = script_answer(&text);
-        coverage.script(&lines, &expected.output);
-        if rig.run(&["run"], text.as_bytes()) == expected {
-            return true;
-        }
-        let text = script_text(&small_script(rig, lines));
-        show("scripts", plan, case, &text, &rig.run(&["run"], text.as_bytes()), &script_answer(&text));
-        false
+        coverage.script(&lines, &script_answer(&script_text(&lines)).output);
+        script_agrees(Origin { set: "scripts", seed: plan.seed, case }, rig, lines)
     });
     covered(report, 200, &coverage)
+}
+
+/// Whether `rig` answers a script as the reference does; else the difference is shown.
+fn script_agrees(origin: Origin, rig: &Program, lines: Vec<String>) -> bool {
+    let text = script_text(&lines);
+    if rig.run(&["run"], text.as_bytes()) == script_answer(&text) {
+        return true;
+    }
+    let text = script_text(&small_script(rig, lines));
+    origin.show(&text, &rig.run(&["run"], text.as_bytes()), &script_answer(&text));
+    false
 }
 
 /// Leaves off lines, then records and bytes of the blocks that are left, then lines again.
@@ -199,7 +226,8 @@ pub fn captures(plan: &Plan) -> Report {
             program != expected
         });
         let (program, expected) = twin_answers(rig, &files, &case);
-        show("captures", plan, index, &case_text(&case), &program, &expected);
+        let origin = Origin { set: "captures", seed: plan.seed, case: index };
+        origin.show(&case_text(&case), &program, &expected);
         false
     })
 }
@@ -255,18 +283,19 @@ fn case_text(case: &Case) -> String {
     text
 }
 
-/// Whether `listing` says of a block of the table what the reference says.
-fn is_listed(lister: &Program, plan: &Plan, index: usize, block: &[u8]) -> bool {
-    let answer = lister.run(&[], block);
-    let expected = Answer::of(&listing::lines(block), true);
-    let agree = answer.output == expected.output;
+/// Whether a program gives the answers of the table; else the difference is shown whole, since the table has answers to
+/// the whole input alone.
+fn is_as_published(origin: Origin, example: &Example, answer: &Answer) -> bool {
+    let expected = Answer::of(example.answers(), true);
+    let agree = *answer == expected;
     if !agree {
-        show("published", plan, index, &script::hex(block), &answer, &expected);
+        origin.show_against("table", &example.input(), answer, &expected);
     }
     agree
 }
 
-/// The published packets, whose answers stand in the table and are not worked out by the reference.
+/// The published packets, whose answers stand in the table and are not worked out by the reference. A program that
+/// differs from both is shown against the reference, by an input made small.
 pub fn published(plan: &Plan) -> Report {
     let (bench, lister) = match (Program::find(&plan.programs, "bench"), Program::find(&plan.programs, "listing")) {
         (Ok(bench), Ok(lister)) => (bench, lister),
@@ -275,21 +304,19 @@ pub fn published(plan: &Plan) -> Report {
         }
     };
     let examples = published::examples();
-    set("published", examples.len(), Program::find(&plan.programs, "rig"), &mut |rig, index| {
-        let example = &examples[index];
-        let (answer, expected) = match example {
-            published::Example::Script { text, answers } => {
-                (rig.run(&["run"], text.as_bytes()), Answer::of(answers, true))
+    set("published", examples.len(), Program::find(&plan.programs, "rig"), &mut |rig, case| {
+        let example = &examples[case];
+        let origin = Origin { set: "published", seed: plan.seed, case };
+        let agree = match example {
+            Example::Script { text, .. } => {
+                script_agrees(origin, rig, text.lines().map(str::to_string).collect())
+                    && is_as_published(origin, example, &rig.run(&["run"], text.as_bytes()))
             }
-            published::Example::Bench { block, answers } => {
-                let answer = Answer { success: true, ..bench.run(&[], block) };
-                (answer, Answer::of(answers, true))
+            Example::Bench { block, .. } => {
+                block_agrees(origin, &bench, bench::lines, block)
+                    && is_as_published(origin, example, &bench.run(&[], block))
             }
         };
-        let agree = answer == expected;
-        if !agree {
-            show("published", plan, index, &example.input(), &answer, &expected);
-        }
-        agree & example.blocks().iter().all(|block| is_listed(&lister, plan, index, block))
+        agree & example.blocks().iter().all(|block| block_agrees(origin, &lister, listing::lines, block))
     })
 }
