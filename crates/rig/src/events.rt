@@ -1,4 +1,5 @@
 use crate::capture::Capture;
+use crate::progress::{Progress, Task};
 use crate::trouble::Trouble;
 use block::{Record, Walk};
 use board::{Fitting, Running};
@@ -7,7 +8,6 @@ use fault::Fault;
 use memory::{ByteMemory, Memory};
 use roster::BanksMut;
 use script::Fit;
-use std::alloc::Global;
 
 /// How many cells a decoder owns.
 const WINDOW: usize = 1024;
@@ -59,7 +59,8 @@ fn add_events<M: Memory>(
 
 /// Fits one decoder, and performs a capture on it alone.
 fn events_alone<M: Memory>(
-    heap: Global,
+    rt: &HostRuntime,
+    progress: Progress,
     banks: &mut BanksMut<'_>,
     memory: &mut M,
     fit: Fit,
@@ -68,8 +69,9 @@ fn events_alone<M: Memory>(
     let mut board = Fitting::new();
     board.fit(banks, memory, fit)?;
     let board = board.start();
-    let mut events = Vec::new(heap);
-    for block in capture.blocks.iter() {
+    let mut events = Vec::new(rt.alloc());
+    for (done, block) in capture.blocks.iter().enumerate() {
+        progress.tell(rt, done);
         add_events(&board, banks, memory, block, &mut events)?;
     }
     Ok(events)
@@ -79,7 +81,8 @@ fn events_alone<M: Memory>(
 ///
 /// They are found on a board on which it is alone.
 pub(crate) fn own_events(
-    heap: Global,
+    rt: &HostRuntime,
+    task: Task,
     fit: Fit,
     capture: &Capture<'_>,
 ) -> Result<Vec<u8>, Trouble> {
@@ -88,7 +91,10 @@ pub(crate) fn own_events(
         basics: &mut [Basic::new(0)],
         extendeds: &mut [Extended::new(0)],
     };
-    let mut cells = vec![in heap; 0u8; WINDOW]?;
+    let mut cells = vec![in rt.alloc(); 0u8; WINDOW]?;
     let mut memory = ByteMemory::new(cells.as_mut_slice());
-    events_alone(heap, &mut banks, &mut memory, fit, capture)
+    let progress = Progress::new(rt, task, capture.blocks.len());
+    let events = events_alone(rt, progress, &mut banks, &mut memory, fit, capture);
+    progress.close(rt);
+    events
 }

@@ -5,9 +5,9 @@ use crate::events::own_events;
 use crate::fittings::Fitted;
 use crate::names::Named;
 use crate::play::Played;
+use crate::progress::Task;
 use crate::trouble::Trouble;
 use script::{DecoderName, Fit};
-use std::alloc::Global;
 use std::fmt;
 use std::process::ExitCode;
 
@@ -48,13 +48,14 @@ impl fmt::Display for Verdict {
 }
 
 fn has_same_events(
-    heap: Global,
+    rt: &HostRuntime,
+    task: Task,
     fit: Fit,
     capture: &Capture<'_>,
     other: &Capture<'_>,
 ) -> Result<bool, Trouble> {
-    let first = own_events(heap, fit, capture)?;
-    let second = own_events(heap, fit, other)?;
+    let first = own_events(rt, task, fit, capture)?;
+    let second = own_events(rt, task, fit, other)?;
     Ok(first.as_slice() == second.as_slice())
 }
 
@@ -68,11 +69,14 @@ pub(crate) fn compare_ends(
     other: &Played,
 ) -> Result<ExitCode, Trouble> {
     let mut status = ExitCode::SUCCESS;
-    for (first, second) in one.portraits.iter().zip(other.portraits.iter()) {
+    let decoders = one.portraits.len();
+    let pairs = one.portraits.iter().zip(other.portraits.iter());
+    for (decoder, (first, second)) in (1..).zip(pairs) {
         let Fitted { name, fit } = first.fitted;
+        let task = Task::FindEvents { decoder, decoders };
         let verdict = Verdict {
             name,
-            same_events: has_same_events(rt.alloc(), fit, capture, other_capture)?,
+            same_events: has_same_events(rt, task, fit, capture, other_capture)?,
             same_end: first.difference(second).is_none(),
         };
         println!(rt; "{verdict}")?;

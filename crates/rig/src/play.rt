@@ -2,7 +2,7 @@ use crate::banks::Records;
 use crate::capture::Capture;
 use crate::fittings::{Fitted, Wanted};
 use crate::portrait::Portrait;
-use crate::progress::Progress;
+use crate::progress::{Progress, Task};
 use crate::tally::Tally;
 use crate::trouble::Trouble;
 use board::Running;
@@ -57,14 +57,13 @@ fn take_all<M: Memory>(
     capture: &Capture<'_>,
 ) -> Tally {
     let mut tally = Tally::default();
-    let progress = Progress::new(rt, capture.blocks.len());
+    let progress = Progress::new(rt, Task::Take, capture.blocks.len());
     for (done, block) in capture.blocks.iter().enumerate() {
-        // A report that cannot be written is no reason to stop.
-        let _ = progress.tell(rt, done);
+        progress.tell(rt, done);
         let result = board.take(banks, memory, block);
         tally.add(block, result);
     }
-    let _ = progress.close(rt);
+    progress.close(rt);
     tally
 }
 
