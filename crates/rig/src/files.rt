@@ -18,5 +18,6 @@ pub(crate) fn read_bytes(rt: &HostRuntime, path: &str) -> Result<Vec<u8>, Troubl
 
 /// The text of standard input.
 pub(crate) fn read_input(rt: &HostRuntime) -> Result<String, Trouble> {
-    Ok(io::read_to_string(rt.alloc(), rt.stdin())?)
+    let text = io::read_to_string(rt.alloc(), rt.stdin());
+    text.try_map_err(|error| unreadable(rt, "standard input", error))
 }

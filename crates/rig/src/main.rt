@@ -39,7 +39,8 @@ const USAGE: &str = "usage: rig run [FILE]
 /// Does what the program is called to do, and answers the status with which it ends.
 fn perform(rt: &HostRuntime) -> Result<ExitCode, Trouble> {
     let heap = rt.alloc();
-    let args: Vec<String> = env::args(rt)?.skip(1).collect(heap)?;
+    let args = env::args(rt).map_err(Trouble::Arguments)?;
+    let args: Vec<String> = args.skip(1).collect(heap)?;
     let words: Vec<&str> = args.iter().map(|arg| arg.as_str()).collect(heap)?;
     match words.as_slice() {
         ["run"] | ["run", "-"] => run_script(rt, read_input(rt)?.as_str()),

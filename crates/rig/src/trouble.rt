@@ -34,9 +34,12 @@ pub enum Trouble {
     /// A capture ends too soon.
     #[error("{path}: {cut}")]
     CutOff { path: String, cut: Cut },
-    /// Standard input or output fails.
-    #[error(transparent)]
-    Transfer(#[from] io::Error),
+    /// The words that the program was called with are no text.
+    #[error("arguments: {0}")]
+    Arguments(io::Error),
+    /// Standard output fails.
+    #[error("standard output: {0}")]
+    Output(#[from] io::Error),
     #[error("no memory left")]
     Memory(#[from(alloc)] AllocError),
 }
