@@ -1,4 +1,4 @@
-use crate::line::Line;
+use crate::line::{FITTING, Line};
 use crate::trouble::Trouble;
 use fault::Fault;
 use script::{DecoderName, Fit};
@@ -37,7 +37,10 @@ pub(crate) fn read_fittings(heap: Global, text: &str) -> Result<Vec<Wanted>, Tro
         .zip(text.lines())
         .filter_map(|(line, text)| match Line::read(heap, line, text).transpose()? {
             Ok(Line::Fit(fit)) => Some(Ok(Wanted { line, fit })),
-            Ok(_other) => Some(Err(Trouble::BadLine(line))),
+            Ok(_) | Err(Trouble::BadLine { .. }) => {
+                let expected = FITTING;
+                Some(Err(Trouble::BadLine { line, expected }))
+            }
             Err(trouble) => Some(Err(trouble)),
         })
         .try_collect(heap)

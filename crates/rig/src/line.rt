@@ -8,6 +8,10 @@ use decoder::Address;
 use script::{DecoderName, Fit, Request};
 use std::alloc::{AllocError, Global};
 
+/// The lines by which decoders are fitted.
+pub(crate) const FITTING: &str =
+    "fit mobile short A, fit mobile long A, fit basic A or fit extended A";
+
 /// How much calls are lent: the first records of each bank and the first cells of the memory.
 #[derive(Clone, Copy)]
 pub struct Lent {
@@ -117,6 +121,23 @@ fn call(heap: Global, words: &[&str]) -> Result<Option<Line>, AllocError> {
     }
 }
 
+/// What a line that is no call should be, by its first word.
+fn expected(words: &[&str]) -> &'static str {
+    match words {
+        ["new", ..] => "new alone",
+        ["lend", ..] => "lend M B E C, three numbers up to 32 and one up to 32768",
+        ["fit", ..] => FITTING,
+        ["start", ..] => "start alone",
+        ["take", ..] => "take and bytes, each of two hexadecimal digits",
+        ["set", ..] => "set KIND NUMBER CV VALUE, VALUE up to 255",
+        ["state", ..] => "state KIND NUMBER",
+        ["variable", ..] => "variable KIND NUMBER CV",
+        ["function", ..] => "function KIND NUMBER F",
+        ["binary", ..] => "binary KIND NUMBER N",
+        _ => "new, lend, fit, start, take, set, state, variable, function or binary",
+    }
+}
+
 impl Line {
     /// Reads a line of a script, if it has a word.
     pub(crate) fn read(heap: Global, number: usize, text: &str) -> Result<Option<Line>, Trouble> {
@@ -124,7 +145,12 @@ impl Line {
         if words.is_empty() {
             return Ok(None);
         }
-        let line = call(heap, words.as_slice())?.ok_or(Trouble::BadLine(number))?;
-        Ok(Some(line))
+        let Some(call) = call(heap, words.as_slice())? else {
+            return Err(Trouble::BadLine {
+                line: number,
+                expected: expected(words.as_slice()),
+            });
+        };
+        Ok(Some(call))
     }
 }

@@ -19,9 +19,9 @@ pub enum Trouble {
     /// The program was called in another way than it can be.
     #[error("no such command")]
     Usage,
-    /// The line of this number is no call.
-    #[error("line {0}: bad line")]
-    BadLine(usize),
+    /// The line of this number is no call that may stand there.
+    #[error("line {line}: bad line, expected {expected}")]
+    BadLine { line: usize, expected: &'static str },
     /// The decoder that this line asks for cannot be fitted.
     #[error("line {line}: refused {}", Told(*.fault))]
     Unfitted { line: usize, fault: Fault },
