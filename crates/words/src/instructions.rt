@@ -1,31 +1,39 @@
+ghost use Rattle.std.specs.Prelude.{Some};
+ghost use Rattle.std.specs.Fmt.{WritesOnOk};
+ghost use Rattle.words.specs.Functions.{functions_text};
+ghost use Rattle.words.specs.Instructions.{consist_text, instruction_text};
+ghost use Rattle.words.specs.Speeds.{speed_text, speed126_text};
+
 use crate::lists::NumbersOn;
 use crate::switches::{direction, switched};
 use crate::wrapper::InWords;
 use packet::{FunctionGroup, Instruction};
-use state::{Scale, Speed, has_bit};
-use std::{array, fmt};
+use state::{Functions, Scale, Speed, has_bit};
+use std::fmt;
 
-/// The functions that a group switches on. FL, which is F0, stands above F1 to F4 in its group's bits.
+/// The functions that are on after their group is switched, all off before. FL, in the first group, is F0.
 fn functions<W: fmt::Write>(
     group: FunctionGroup,
     bits: u8,
     f: &mut fmt::Formatter<W>,
-) -> fmt::Result {
-    let (first, last, bits) = match group {
-        FunctionGroup::F0ToF4 => (0, 4, bits % 16 * 2 + u8::from(has_bit(bits, 4))),
-        _ => (group.lowest(), group.lowest() + group.width() - 1, bits),
+) -> fmt::Result
+    ensures { WritesOnOk W.write_str_gives f.old result (functions_text group bits) f.new }
+{
+    let first = match group {
+        FunctionGroup::F0ToF4 => 0,
+        _ => group.lowest(),
     };
-    let switches: [bool; 8] = array::from_fn(|k| first + k <= last && has_bit(bits, k as u8));
-    let on = NumbersOn {
-        first,
-        switches: &switches,
-        none: "-",
-    };
+    let last = group.lowest() + group.width() - 1;
+    let mut functions = Functions { on: [false; 69] };
+    functions.switch(group, bits, true);
+    let on = NumbersOn::from_zero(&functions.on, "-");
     write!(f, "functions {first} to {last} on {on}")
 }
 
 /// What a code of five bits asks in 28 steps, and in 14, where its bit 4 is FL.
-fn speed<W: fmt::Write>(forward: bool, code: u8, f: &mut fmt::Formatter<W>) -> fmt::Result {
+fn speed<W: fmt::Write>(forward: bool, code: u8, f: &mut fmt::Formatter<W>) -> fmt::Result
+    ensures { WritesOnOk W.write_str_gives f.old result (speed_text forward code) f.new }
+{
     let way = direction(forward);
     let light = switched(has_bit(code, 4));
     let of_28 = Speed::at(Scale::TwentyEight, code);
@@ -45,7 +53,9 @@ fn speed<W: fmt::Write>(forward: bool, code: u8, f: &mut fmt::Formatter<W>) -> f
     }
 }
 
-fn speed126<W: fmt::Write>(forward: bool, code: u8, f: &mut fmt::Formatter<W>) -> fmt::Result {
+fn speed126<W: fmt::Write>(forward: bool, code: u8, f: &mut fmt::Formatter<W>) -> fmt::Result
+    ensures { WritesOnOk W.write_str_gives f.old result (speed126_text forward code) f.new }
+{
     let way = direction(forward);
     match Speed::at(Scale::OneTwentySix, code) {
         Speed::Stop => write!(f, "speed {way} stop of 126"),
@@ -54,7 +64,9 @@ fn speed126<W: fmt::Write>(forward: bool, code: u8, f: &mut fmt::Formatter<W>) -
     }
 }
 
-fn consist<W: fmt::Write>(reversed: bool, address: u8, f: &mut fmt::Formatter<W>) -> fmt::Result {
+fn consist<W: fmt::Write>(reversed: bool, address: u8, f: &mut fmt::Formatter<W>) -> fmt::Result
+    ensures { WritesOnOk W.write_str_gives f.old result (consist_text reversed address) f.new }
+{
     let way = if reversed { " reversed" } else { "" };
     match address {
         0 => write!(f, "consist none{way}"),
@@ -63,6 +75,8 @@ fn consist<W: fmt::Write>(reversed: bool, address: u8, f: &mut fmt::Formatter<W>
 }
 
 impl fmt::Display for InWords<Instruction> {
+    ghost output = { λ words. Some (instruction_text words.0) };
+
     fn fmt<W: fmt::Write>(&self, f: &mut fmt::Formatter<W>) -> fmt::Result {
         match self.0 {
             Instruction::NoOperation => write!(f, "no operation"),

@@ -1,15 +1,16 @@
-ghost use Rattle.std.specs.Prelude.{◌≡◌, if◌then◌else◌, codes};
+ghost use Rattle.std.specs.Prelude.{◌≡◌};
+ghost use Rattle.words.specs.Switches.{direction_text, switched_text};
 
 /// Where a decoder is sent, forward or in reverse.
 pub fn direction(forward: bool) -> &'static str
-    ensures { result.now ≡ (if forward then codes "forward" else codes "reverse") }
+    ensures { result.now ≡ direction_text forward }
 {
     if forward { "forward" } else { "reverse" }
 }
 
 /// How something is switched, on or off.
 pub fn switched(on: bool) -> &'static str
-    ensures { result.now ≡ (if on then codes "on" else codes "off") }
+    ensures { result.now ≡ switched_text on }
 {
     if on { "on" } else { "off" }
 }
