@@ -17,7 +17,7 @@ fn mobile<W: fmt::Write>(state: &MobileState, f: &mut fmt::Formatter<W>) -> fmt:
         Speed::EmergencyStop => write!(f, "halt")?,
         Speed::Running(step) => write!(f, "{}/{}", step.number(), step.scale().steps())?,
     }
-    let on = NumbersOn::from_zero(&state.functions.on, "-");
+    let on = NumbersOn::new(&state.functions.on, "-");
     writeln!(f, " on {on}")
 }
 
@@ -25,7 +25,7 @@ fn decoder<W: fmt::Write>(state: &DecoderState, f: &mut fmt::Formatter<W>) -> fm
     match state {
         DecoderState::Mobile(state) => mobile(state, f),
         DecoderState::Basic(state) => {
-            let on = NumbersOn::from_zero(&state.shown, "-");
+            let on = NumbersOn::new(&state.shown, "-");
             writeln!(f, "basic 1 on {on}")
         }
         DecoderState::Extended(state) => {

@@ -49,9 +49,9 @@ fn mobile<W: fmt::Write>(state: &MobileState, f: &mut fmt::Formatter<W>) -> fmt:
     let direction = direction(state.forward);
     write!(f, "mobile {direction} ")?;
     speed(state.speed, f)?;
-    let functions = NumbersOn::from_zero(&state.functions.on, "none");
+    let functions = NumbersOn::new(&state.functions.on, "none");
     let states = all_states(&state.states);
-    let states = NumbersOn::from_zero(&states, "none");
+    let states = NumbersOn::new(&states, "none");
     write!(f, " functions {functions} states {states}")?;
     common(&state.waiting, state.reply, f)
 }
@@ -61,7 +61,7 @@ impl fmt::Display for InWords {
         match &self.0 {
             DecoderState::Mobile(state) => mobile(state, f),
             DecoderState::Basic(state) => {
-                let outputs = NumbersOn::from_zero(&state.shown, "none");
+                let outputs = NumbersOn::new(&state.shown, "none");
                 write!(f, "basic outputs {outputs}")?;
                 common(&state.waiting, state.reply, f)
             }

@@ -1,9 +1,9 @@
 -- What is written of a byte, and of lists as they grow.
-use Rattle.std.proofs.Common.{◌≡◌, ◌∙◌, ℕ, ◌+◌, ◌-◌, ◌^◌, ◌<◌, Bool, true, false, ◌⊎◌, inl, inr, Some, List, [], ◌∷◌, ◌++◌, length, get_or, take, codes, ◌==◌, ap, sym, refl, arith, add-one, append-nil, append_assoc}
+use Rattle.std.proofs.Common.{◌≡◌, ◌∙◌, ℕ, ◌+◌, ◌-◌, ◌^◌, ◌<◌, Bool, true, false, Some, List, [], ◌∷◌, ◌++◌, length, get_or, take, codes, ◌==◌, ap, sym, refl, arith, append-nil}
 use Rattle.std.proofs.lemmas.Fmt.{hex_byte}
-use Rattle.std.proofs.lemmas.List.{flat_map_more, take_more}
+use Rattle.std.proofs.lemmas.List.{flat_map_more, length-take-le, take_more}
 use Rattle.std.specs.Fmt.{decimal, digits, digits_output, format_spec, styled_digits_output}
-use Rattle.std.specs.List.{join_by, range_with_len}
+use Rattle.std.specs.List.{items_where_true, join_by, range_with_len}
 use Rattle.words.specs.Lists.{byte_text, numbers_on, numbers_text}
 
 -- what `{:02X}` writes
@@ -29,29 +29,30 @@ pub joined_after_first : {X A : Type 0} (f : X → List A) (sep : List A) (x : X
     → join_by f sep (x ∷ take i xs) ++ (sep ++ f (get_or xs i d)) ≡ join_by f sep (x ∷ take (i + 1) xs)
 joined_after_first f sep x xs i d below = joined_more f sep (x ∷ take i xs) (get_or xs i d) ∙ ap (λ ys. join_by f sep (x ∷ ys)) (sym (take_more xs i d below))
 
-front_of_range : (start n m : ℕ) → n ≡ m + 1 → range_with_len start n ≡ start ∷ range_with_len (start + 1) m
-front_of_range start n m e = ap (range_with_len start) (e ∙ add-one m)
+-- the numbers where the first switch has the number `first`, and those of one switch more
+abbrev numbered : ℕ → List Bool → List ℕ
+numbered first switches = items_where_true switches (range_with_len first (length switches))
 
--- the numbers listed so far and those to come are the same ones after a switch that is on, and after one that is off
-pub after_on : (listed : List ℕ) (start next : ℕ) (all rest : List Bool) (numbers : List ℕ) → all ≡ true ∷ rest → 0 < 2 ^ 64 - 1 - start → next ≡ start + 1
-    → listed ++ numbers_on start all ≡ numbers → (listed ++ start ∷ []) ++ numbers_on next rest ≡ numbers
-unfolding numbers_on
-after_on listed start next all rest numbers parts more is whole =
-    append_assoc listed _ _ ∙ rw (parts, front_of_range start (2 ^ 64 - 1 - start) (2 ^ 64 - 1 - next) (omega arith), ← is) at whole
+numbered_more : (first : ℕ) (xs : List Bool) (on : Bool) → numbered first (xs ++ on ∷ []) ≡ numbered first xs ++ items_where_true (on ∷ []) ((first + length xs) ∷ [])
+numbered_more first [] true = ap (λ (n : ℕ). n ∷ []) (omega arith)
+numbered_more first [] false = refl
+numbered_more first (true ∷ xs) on =
+    ap (λ (ns : List ℕ). first ∷ ns) (numbered_more (first + 1) xs on ∙ ap (λ (n : ℕ). numbered (first + 1) xs ++ items_where_true (on ∷ []) (n ∷ [])) (omega arith))
+numbered_more first (false ∷ xs) on =
+    numbered_more (first + 1) xs on ∙ ap (λ (n : ℕ). numbered (first + 1) xs ++ items_where_true (on ∷ []) (n ∷ [])) (omega arith)
 
-pub after_off : (listed : List ℕ) (start next : ℕ) (all rest : List Bool) (numbers : List ℕ) → all ≡ false ∷ rest → 0 < 2 ^ 64 - 1 - start → next ≡ start + 1
-    → listed ++ numbers_on start all ≡ numbers → listed ++ numbers_on next rest ≡ numbers
+-- the numbers among one switch more
+numbers_more : (xs : List Bool) (i : ℕ) (on : Bool) → i < length xs → get_or xs i false ≡ on → numbers_on (take (i + 1) xs) ≡ numbers_on (take i xs) ++ items_where_true (on ∷ []) (i ∷ [])
 unfolding numbers_on
-after_off listed start next all rest numbers parts more is whole =
-    rw (parts, front_of_range start (2 ^ 64 - 1 - start) (2 ^ 64 - 1 - next) (omega arith), ← is) at whole
+numbers_more xs i on below is =
+    let count : 0 + length (take i xs) ≡ i = omega (arith, length-take-le i xs) in
+    ap (numbered 0) (take_more xs i false below ∙ ap (λ (b : Bool). take i xs ++ b ∷ []) is) ∙ rw count at (numbered_more 0 (take i xs) on)
 
--- at the end of the range or of the switches all are listed
-pub after_last : (listed : List ℕ) (start end : ℕ) (all : List Bool) (numbers : List ℕ) → end ≡ 2 ^ 64 - 1 → (end - start ≡ 0) ⊎ (length all ≡ 0)
-    → listed ++ numbers_on start all ≡ numbers → listed ≡ numbers
-unfolding numbers_on
-after_last listed start end [] numbers is last whole = sym (append-nil listed) ∙ whole
-after_last listed start end (on ∷ rest) numbers is (inl none) whole = sym (append-nil listed) ∙ rw (rw is at none) at whole
-after_last listed start end (on ∷ rest) numbers is (inr none) whole = absurd (omega arith)
+pub after_on : (xs : List Bool) (i : ℕ) → i < length xs → get_or xs i false ≡ true → numbers_on (take i xs) ++ i ∷ [] ≡ numbers_on (take (i + 1) xs)
+after_on xs i below is = sym (numbers_more xs i true below is)
+
+pub after_off : (xs : List Bool) (i : ℕ) → i < length xs → get_or xs i false ≡ false → numbers_on (take i xs) ≡ numbers_on (take (i + 1) xs)
+after_off xs i below is = sym (numbers_more xs i false below is ∙ append-nil _)
 
 -- the text where no number is listed, and where one is
 pub text_of_none : (none numbers : List ℕ) → true ≡ (length (before_next (codes ",") numbers) == 0) → join_by decimal (codes ",") numbers ++ none ≡ numbers_text none numbers

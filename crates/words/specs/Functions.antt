@@ -17,7 +17,7 @@ last_of group = lowest_of group + width_of group - 1
 
 -- the functions that are on after the instruction, where all were off before
 abbrev pub functions_on : FunctionGroup → ℕ → List ℕ
-functions_on group bits = numbers_on 0 (switched (replicate 69 false) group bits true)
+functions_on group bits = numbers_on (switched (replicate 69 false) group bits true)
 
 abbrev pub functions_text : FunctionGroup → ℕ → List ℕ
 functions_text group bits =

@@ -26,7 +26,7 @@ fn functions<W: fmt::Write>(
     let last = group.lowest() + group.width() - 1;
     let mut functions = Functions { on: [false; 69] };
     functions.switch(group, bits, true);
-    let on = NumbersOn::from_zero(&functions.on, "-");
+    let on = NumbersOn::new(&functions.on, "-");
     write!(f, "functions {first} to {last} on {on}")
 }
 

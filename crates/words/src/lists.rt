@@ -7,28 +7,20 @@ use std::fmt;
 #[derive(Clone, Copy)]
 pub struct Hex<'a>(pub &'a [u8]);
 
-/// The numbers of the switches that are on, rising, with commas between.
+/// The numbers of the switches that are on, from 0 and rising, with commas between.
 #[derive(Clone, Copy)]
 pub struct NumbersOn<'a> {
-    /// The number of the first switch.
-    pub first: usize,
     pub switches: &'a [bool],
     /// What is said where none is on.
     pub none: &'a str,
 }
 
 impl<'a> NumbersOn<'a> {
-    /// Of switches that are numbered from 0.
-    pub fn from_zero(switches: &'a [bool], none: &'a str) -> NumbersOn<'a>
-        ensures first { result.first ≡ 0 }
+    pub fn new(switches: &'a [bool], none: &'a str) -> NumbersOn<'a>
         ensures switches { result.switches.now ≡ switches.now }
         ensures none { result.none.now ≡ none.now }
     {
-        NumbersOn {
-            first: 0,
-            switches,
-            none,
-        }
+        NumbersOn { switches, none }
     }
 }
 
@@ -49,11 +41,11 @@ impl fmt::Display for Hex<'_> {
 }
 
 impl fmt::Display for NumbersOn<'_> {
-    ghost output = { λ on. Some (numbers_text on.none.now (numbers_on on.first on.switches.now)) };
+    ghost output = { λ on. Some (numbers_text on.none.now (numbers_on on.switches.now)) };
 
     fn fmt<W: fmt::Write>(&self, f: &mut fmt::Formatter<W>) -> fmt::Result {
         let mut separator = "";
-        for (number, on) in (self.first..usize::MAX).zip(self.switches) {
+        for (number, on) in self.switches.iter().enumerate() {
             if *on {
                 write!(f, "{separator}{number}")?;
                 separator = ",";
