@@ -1,21 +1,23 @@
 -- What a hard reset leaves, and speed in a consist. Assumes nothing.
-use Rattle.std.proofs.Common.{◌≡◌, ℕ, ◌-◌, ◌%◌, Bool, true, false, cond, not, ◌&&◌, eqb, ◌≢◌, List, length, get_or, set, Some, None, Option, refl, ◌∙◌, arith, length-set, get_or-set_same, get_or-set_other}
+use Rattle.std.proofs.Common.{◌≡◌, ℕ, ◌+◌, ◌-◌, ◌%◌, ◌≤◌, Bool, true, false, cond, not, ◌&&◌, eqb, ◌≢◌, List, length, get_or, set, Some, None, Option, refl, ◌∙◌, arith, length-set, get_or-set_same, get_or-set_other}
 use Rattle.std.proofs.lemmas.Bool.{false≢true}
 use Rattle.std.proofs.lemmas.Bool.Decides.{nat_tests}
 use Rattle.packet.specs.declared.instruction.Instruction.{Instruction}
-use Rattle.packet.specs.declared.instruction.Instruction.TheVariants.{Speed, Speed126}
+use Rattle.packet.specs.declared.instruction.Instruction.TheVariants.{Speed, Speed126, AdvancedAddressing, Consist, AccelerationAdjustment, DecelerationAdjustment}
 use Rattle.packet.specs.declared.target.Target.TheVariants as target
 use Rattle.state.specs.declared.scale.Scale.TheVariants.{Fourteen, TwentyEight}
 use Rattle.state.specs.declared.volatile.MobileState.{MobileState}
+use Rattle.state.specs.Bits.{with_bit}
 use Rattle.state.specs.Groups.{lit}
 use Rattle.state.specs.Starting.{mobile_start}
 use Rattle.decoder.specs.declared.records.Mobile.{Mobile}
 use Rattle.decoder.specs.declared.role.Address.{Address}
+use Rattle.decoder.specs.declared.role.Role.{Role}
 use Rattle.decoder.specs.declared.role.Role.TheVariants as role
 use Rattle.decoder.specs.Hearing.{is_short, is_consist}
 use Rattle.decoder.specs.Mobiles.{is_speed, sped, with_functions, mobile_noted}
 use Rattle.decoder.specs.Alone.{Own, own, variable, mobile_view, mobile_rules}
-use Rattle.decoder.specs.Laws.{HardResetLeaves, HardResets, SpeedInConsist}
+use Rattle.decoder.specs.Laws.{HardResetLeaves, HardResets, SpeedInConsist, Puts, InstructionsPut}
 
 module _ (vars : List ℕ) (l : length vars ≡ 1024) where
   abbrev after19 : List ℕ
@@ -89,3 +91,34 @@ speed_in_consist = record {
   turned = λ o bs forward code. short_forward o.rec.state _ _ code;
   turned126 = λ o bs forward code. refl;
 }
+
+-- one variable of a decoder is put
+puts : (o : Own Mobile) (x : Mobile) (n y : ℕ) → length o.vars ≡ 1024 → 1 ≤ n → n ≤ 1024 → Puts o (own x (set o.vars (n - 1) y)) n y
+puts o x n y l least most =
+    record {
+      value = get_or-set_same o.vars (n - 1) y 0 (omega (arith, l));
+      others = λ k h ne. get_or-set_other o.vars (n - 1) (k - 1) y 0 (λ e. ne (omega arith));
+    }
+
+pub instructions_put : InstructionsPut
+instructions_put = record { consist = consist; acceleration = acceleration; deceleration = deceleration; advanced = advanced }
+  where
+    consist : (o : Own Mobile) (r : Role) (bs : List ℕ) (reversed : Bool) (a : ℕ) → length o.vars ≡ 1024 → r ≢ role.Consist → Puts o (mobile_rules.obeys o r bs (Consist reversed a)) 19 (cond reversed 128 0 + a % 128)
+    consist o role.Everyone bs reversed a l ne = puts o _ 19 _ l (omega arith) (omega arith)
+    consist o role.Own bs reversed a l ne = puts o _ 19 _ l (omega arith) (omega arith)
+    consist o role.Consist bs reversed a l ne = absurd (ne refl)
+
+    acceleration : (o : Own Mobile) (r : Role) (bs : List ℕ) (x : ℕ) → length o.vars ≡ 1024 → r ≢ role.Consist → Puts o (mobile_rules.obeys o r bs (AccelerationAdjustment x)) 23 x
+    acceleration o role.Everyone bs x l ne = puts o _ 23 _ l (omega arith) (omega arith)
+    acceleration o role.Own bs x l ne = puts o _ 23 _ l (omega arith) (omega arith)
+    acceleration o role.Consist bs x l ne = absurd (ne refl)
+
+    deceleration : (o : Own Mobile) (r : Role) (bs : List ℕ) (x : ℕ) → length o.vars ≡ 1024 → r ≢ role.Consist → Puts o (mobile_rules.obeys o r bs (DecelerationAdjustment x)) 24 x
+    deceleration o role.Everyone bs x l ne = puts o _ 24 _ l (omega arith) (omega arith)
+    deceleration o role.Own bs x l ne = puts o _ 24 _ l (omega arith) (omega arith)
+    deceleration o role.Consist bs x l ne = absurd (ne refl)
+
+    advanced : (o : Own Mobile) (r : Role) (bs : List ℕ) (on : Bool) → length o.vars ≡ 1024 → r ≢ role.Consist → Puts o (mobile_rules.obeys o r bs (AdvancedAddressing on)) 29 (with_bit (variable o.vars 29) 5 on)
+    advanced o role.Everyone bs on l ne = puts o _ 29 _ l (omega arith) (omega arith)
+    advanced o role.Own bs on l ne = puts o _ 29 _ l (omega arith) (omega arith)
+    advanced o role.Consist bs on l ne = absurd (ne refl)

@@ -1,6 +1,6 @@
 -- Who hears what. Assumes nothing.
-use Rattle.std.proofs.Common.{◌≡◌, ℕ, ◌+◌, ◌/◌, ◌%◌, true, Some, None, Option, refl, ap, ◌∙◌, arith}
-use Rattle.std.proofs.lemmas.Bool.{cond-true, eq-eqb}
+use Rattle.std.proofs.Common.{◌≡◌, ℕ, ◌+◌, ◌/◌, ◌%◌, Bool, true, cond, eqb, ◌≢◌, Some, None, Option, sym, refl, ap, ◌∙◌, arith}
+use Rattle.std.proofs.lemmas.Bool.{cond-true, cond-false, eq-eqb, ne_eqb}
 use Rattle.std.proofs.lemmas.Bool.Decides.{nat_tests}
 use Rattle.packet.specs.declared.target.Target.{Target}
 use Rattle.packet.specs.declared.target.Target.TheVariants as target
@@ -9,10 +9,10 @@ use Rattle.decoder.specs.declared.role.Address.TheVariants as address
 use Rattle.decoder.specs.declared.role.Role.{Role}
 use Rattle.decoder.specs.declared.role.Role.TheVariants as role
 use Rattle.decoder.specs.Fresh.{Basic, Extended}
-use Rattle.decoder.specs.Alone.{Own, mobile_rules, basic_rules, extended_rules, mobile_view}
+use Rattle.decoder.specs.Alone.{Own, variable, mobile_rules, basic_rules, extended_rules, mobile_view}
 use Rattle.decoder.specs.Fitted.{blank, mobile_defaults, mobile_variables, mobile_fitted}
-use Rattle.decoder.specs.Hearing.{own_address, is_short, is_long, mobile_role, by_accessory}
-use Rattle.decoder.specs.Laws.{HearsItsOwn, HasAnAddress, HearsItsKind, is_mobile_address, target_at}
+use Rattle.decoder.specs.Hearing.{own_address, is_short, is_long, is_consist, mobile_role, by_accessory}
+use Rattle.decoder.specs.Laws.{HearsItsOwn, HasAnAddress, HearsItsKind, HearsAll, HearsItsConsist, is_mobile_address, target_at}
 
 own_short : (a : ℕ) → is_mobile_address (address.Short a) ≡ true → own_address 2 a 192 0 ≡ Some (address.Short a)
 own_short a h = cond-true _ _ _ h
@@ -62,3 +62,22 @@ hears_its_kind = record { mobile = λ o a. (refl, refl, refl); basic = basic; ex
     extended : (o : Own Extended) (t : Target) (r : Role) → extended_rules.hears o t ≡ Some r → (a : ℕ) × (t ≡ target.Extended a)
     extended o (target.Extended a) r e = (a, refl)
     extended o t r e = cc
+
+pub hears_all : HearsAll
+hears_all = record {
+  mobile = λ o. refl;
+  basic = λ o ne. to_all o.rec.address 511 ne;
+  extended = λ o ne. to_all o.rec.address 2047 ne;
+  basic_others = λ o a ne all. cond-false _ _ _ (ne_eqb a o.rec.address ne) ∙ cond-false _ _ _ (ne_eqb a 511 all);
+  extended_others = λ o a ne all. cond-false _ _ _ (ne_eqb a o.rec.address ne) ∙ cond-false _ _ _ (ne_eqb a 2047 all);
+}
+  where
+    to_all : (own all : ℕ) → own ≢ all → by_accessory own all all ≡ Some role.Everyone
+    to_all own all ne = cond-false _ _ _ (ne_eqb all own (λ e. ne (sym e))) ∙ cond-true _ _ _ (eq-eqb all all refl)
+
+-- the two ways to tell the consist's address
+consist_is : (c a : ℕ) (mine : Bool) → cond mine (Some role.Own) (cond (is_consist a c) (Some role.Consist) None) ≡ Some role.Consist → cond (eqb (c % 128) 0) None (Some (c % 128)) ≡ Some a
+consist_is c a mine h = grind (arith, nat_tests)
+
+pub hears_its_consist : HearsItsConsist
+hears_its_consist o a h = consist_is (variable o.vars 19) a _ h

@@ -77,7 +77,7 @@ module _ {exceptions : List ℕ} (n b : ℕ) (free : Ordinary exceptions n) wher
       go true true false G f = put_names vars a l
 
 -- both ways nothing
-same_cond : (c : Bool) (vars : List ℕ) → applied (cond c None None) vars ≡ vars
+pub same_cond : (c : Bool) (vars : List ℕ) → applied (cond c None None) vars ≡ vars
 same_cond true vars = refl
 same_cond false vars = refl
 

@@ -7,3 +7,7 @@ pub mod Fittings
 pub mod Hearings
 pub mod States
 pub mod Consists
+pub mod Verified
+pub mod Begun
+pub mod Gone
+pub mod Showings

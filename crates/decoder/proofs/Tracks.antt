@@ -27,9 +27,14 @@ use Rattle.state.specs.declared.volatile.MobileState.{MobileState}
 use Rattle.state.specs.declared.scale.Scale.TheVariants.{Fourteen, TwentyEight}
 use Rattle.decoder.specs.Alone.{Own, Rules, variable, named, applied, hearing, obeyed, live, mobile_rules, accessory_rules}
 use Rattle.decoder.specs.Alone.Event.{heard}
-use Rattle.decoder.proofs.Consists.{hard_resets, speed_in_consist}
-use Rattle.decoder.proofs.Hearings.{hears_its_own, has_an_address, hears_its_kind}
-use Rattle.decoder.proofs.States.{states_switch_one}
+use Rattle.decoder.proofs.Begun.{powers_up, fits}
+use Rattle.decoder.proofs.Consists.{hard_resets, speed_in_consist, instructions_put}
+use Rattle.decoder.proofs.Gone.{speeds_in_order, speed_acts, functions_told}
+use Rattle.decoder.proofs.Hearings.{hears_its_own, has_an_address, hears_its_kind, hears_all, hears_its_consist}
+use Rattle.decoder.proofs.Same.{packets_wait}
+use Rattle.decoder.proofs.Showings.{others_keep as keeps_others, accessories_show}
+use Rattle.decoder.proofs.States.{states_switch_one, states_switch_together}
+use Rattle.decoder.proofs.Verified.{mobile_verifies, basic_verifies, extended_verifies, mobile_writes, basic_writes, extended_writes}
 use Rattle.decoder.proofs.Sounds.{Apart, Sound, basic_sound, extended_sound}
 use Rattle.decoder.specs.declared.effect.Accessed.{Accessed}
 use Rattle.decoder.specs.Laws.{KindLaws, SilentByOwnVariable, ReplyNeedsAll, ResetIsPowerUp, ByConsistOnlySpeed, GroupsSwitchTheirOwn, is_in_group, LightByGroupOne, OthersKeepFunctions, Laws}
@@ -292,4 +297,22 @@ laws = record {
   kinds = hears_its_kind;
   silent = silent_by_own;
   states = states_switch_one;
+  states_together = states_switch_together;
+  functions_told = functions_told;
+  speed_codes = speeds_in_order;
+  speed_acts = speed_acts;
+  broadcasts = hears_all;
+  puts = instructions_put;
+  mobile_verifies = mobile_verifies;
+  basic_verifies = basic_verifies;
+  extended_verifies = extended_verifies;
+  mobile_writes = mobile_writes;
+  basic_writes = basic_writes;
+  extended_writes = extended_writes;
+  power_up = powers_up;
+  fits = fits;
+  others_keep = keeps_others;
+  accessories = accessories_show;
+  consist_address = hears_its_consist;
+  packets_wait = packets_wait;
 }

@@ -1,5 +1,5 @@
 -- What the rules come to, in the words of the track.
-use Rattle.std.specs.Prelude.{◌≡◌, ℕ, ◌+◌, ◌-◌, ◌<◌, ◌≤◌, Bool, true, false, cond, not, ◌&&◌, ◌⊎◌, List, length, Some, None, Option, ◌≢◌, nat_le, nat_lt, slice_index_or}
+use Rattle.std.specs.Prelude.{◌≡◌, ℕ, ◌+◌, ◌-◌, ◌%◌, ◌<◌, ◌≤◌, Bool, true, false, cond, not, ◌&&◌, ◌⊎◌, List, length, Some, None, Option, ◌≢◌, nat_le, nat_lt, ◌==◌, slice_index_or}
 use Rattle.packet.specs.declared.instruction.FunctionGroup.{FunctionGroup}
 use Rattle.packet.specs.declared.instruction.FunctionGroup.TheVariants.{F0ToF4, F5ToF8, F9ToF12, F13ToF20, F21ToF28, F29ToF36, F37ToF44, F45ToF52, F53ToF60, F61ToF68}
 use Rattle.packet.specs.declared.instruction.Instruction.{Instruction}
@@ -9,8 +9,8 @@ use Rattle.packet.specs.declared.target.Target.TheVariants as target
 use Rattle.packet.specs.Groups.{lowest_of, width_of}
 use Rattle.format.specs.Reading.{packet_read}
 use Rattle.state.specs.declared.step.Step.{Step}
-use Rattle.state.specs.Bits.{bit_of}
-use Rattle.state.specs.Groups.{switched}
+use Rattle.state.specs.Bits.{bit_of, with_bit}
+use Rattle.state.specs.Groups.{switched, function_at}
 use Rattle.state.specs.Kept.{kept_after, state_at}
 use Rattle.state.specs.Packing.{packed, matches}
 use Rattle.state.specs.Scales.{top}
@@ -25,11 +25,14 @@ use Rattle.decoder.specs.declared.effect.Accessed.{Accessed}
 use Rattle.decoder.specs.Accesses.{access_of, is_write}
 use Rattle.decoder.specs.Fresh.{Basic, Extended}
 use Rattle.decoder.specs.Fitted.{mobile_fitted, basic_fitted, extended_fitted}
-use Rattle.decoder.specs.Hearing.{own_address}
+use Rattle.decoder.specs.Hearing.{own_address, consist_of}
 use Rattle.decoder.specs.Replies.{reply_after}
 use Rattle.decoder.specs.Mobiles.{is_speed, mobile_noted}
-use Rattle.decoder.specs.Alone.{Own, Rules, own, variable, hearing, live, mobile_rules, basic_rules, extended_rules}
+use Rattle.decoder.specs.Alone.{Own, Rules, own, variable, hearing, live, mobile_view, mobile_rules, basic_rules, extended_rules}
 use Rattle.decoder.specs.Alone.Event.{heard}
+use Rattle.decoder.specs.LongForms.{PacketsWait, VerifiesTell, WritesTake}
+use Rattle.decoder.specs.Beginnings.{PowersUp, Fits}
+use Rattle.decoder.specs.Going.{SpeedsInOrder, SpeedActs}
 
 -- of a kind of decoder
 pub record KindLaws {X : Type 0} (m : Rules X) : Type 0 where
@@ -186,6 +189,60 @@ pub record StatesSwitchOne : Type 0 where
   pub same : (bits : List ℕ) (n : ℕ) (on : Bool) → length bits ≡ 256 → 1 ≤ n → n ≤ 2047 → state_at (kept_after bits n on) n ≡ Some on
   pub others : (bits : List ℕ) (n m : ℕ) (on : Bool) → length bits ≡ 256 → m ≢ n → state_at (kept_after bits n on) m ≡ state_at bits m
 
+-- all binary states that are kept, or those from 1 to 127, are as told after they are switched together, and the others
+-- as they were
+pub record StatesSwitchTogether : Type 0 where
+  pub all : (o : Own Mobile) (r : Role) (bs : List ℕ) (n : ℕ) (on : Bool) → r ≢ role.Consist → 1 ≤ n → n ≤ 2047 → state_at (mobile_rules.obeys o r bs (BinaryStateLong on 0)).rec.state.states.bits n ≡ Some on
+  pub low : (o : Own Mobile) (r : Role) (bs : List ℕ) (n : ℕ) (on : Bool) → r ≢ role.Consist → 1 ≤ n → n ≤ 127 → state_at (mobile_rules.obeys o r bs (BinaryStateShort on 0)).rec.state.states.bits n ≡ Some on
+  pub high : (o : Own Mobile) (r : Role) (bs : List ℕ) (n : ℕ) (on : Bool) → 128 ≤ n → state_at (mobile_rules.obeys o r bs (BinaryStateShort on 0)).rec.state.states.bits n ≡ state_at o.rec.state.states.bits n
+
+-- the functions that are told are F0, which is FL, to F68, each as it stands
+pub record FunctionsTold : Type 0 where
+  pub told : (fs : List Bool) (n : ℕ) → n ≤ 68 → function_at fs n ≡ Some (slice_index_or fs n false)
+  pub beyond : (fs : List Bool) (n : ℕ) → 69 ≤ n → function_at fs n ≡ None
+
+-- every decoder hears what is sent to all of its kind; an accessory decoder hears nothing but that and its own address
+pub record HearsAll : Type 0 where
+  pub mobile : (o : Own Mobile) → mobile_rules.hears o target.Broadcast ≡ Some role.Everyone
+  pub basic : (o : Own Basic) → o.rec.address ≢ 511 → basic_rules.hears o (target.Basic 511) ≡ Some role.Everyone
+  pub extended : (o : Own Extended) → o.rec.address ≢ 2047 → extended_rules.hears o (target.Extended 2047) ≡ Some role.Everyone
+  pub basic_others : (o : Own Basic) (a : ℕ) → a ≢ o.rec.address → a ≢ 511 → basic_rules.hears o (target.Basic a) ≡ None
+  pub extended_others : (o : Own Extended) (a : ℕ) → a ≢ o.rec.address → a ≢ 2047 → extended_rules.hears o (target.Extended a) ≡ None
+
+-- only variable n changes, to x
+pub record Puts (o after : Own Mobile) (n x : ℕ) : Type 0 where
+  pub value : variable after.vars n ≡ x
+  pub others : (k : ℕ) → 1 ≤ k → k ≢ n → variable after.vars k ≡ variable o.vars k
+
+-- instructions that put something into a variable of their own: 19 gets the consist address, with bit 7 where it is
+-- reversed, 23 and 24 the adjustments, and bit 5 of 29 says whether the long address counts
+pub record InstructionsPut : Type 0 where
+  pub consist : (o : Own Mobile) (r : Role) (bs : List ℕ) (reversed : Bool) (a : ℕ) → length o.vars ≡ 1024 → r ≢ role.Consist → Puts o (mobile_rules.obeys o r bs (Consist reversed a)) 19 (cond reversed 128 0 + a % 128)
+  pub acceleration : (o : Own Mobile) (r : Role) (bs : List ℕ) (x : ℕ) → length o.vars ≡ 1024 → r ≢ role.Consist → Puts o (mobile_rules.obeys o r bs (AccelerationAdjustment x)) 23 x
+  pub deceleration : (o : Own Mobile) (r : Role) (bs : List ℕ) (x : ℕ) → length o.vars ≡ 1024 → r ≢ role.Consist → Puts o (mobile_rules.obeys o r bs (DecelerationAdjustment x)) 24 x
+  pub advanced : (o : Own Mobile) (r : Role) (bs : List ℕ) (on : Bool) → length o.vars ≡ 1024 → r ≢ role.Consist → Puts o (mobile_rules.obeys o r bs (AdvancedAddressing on)) 29 (with_bit (variable o.vars 29) 5 on)
+
+-- no instruction but speed and a reset changes the speed or the direction, and none but a binary state and a reset the
+-- binary states
+pub record OthersKeep : Type 0 where
+  pub speed : (o : Own Mobile) (r : Role) (bs : List ℕ) (i : Instruction) → is_speed i ≡ false → i ≢ Reset → i ≢ HardReset → (mobile_rules.obeys o r bs i).rec.state.speed ≡ o.rec.state.speed
+  pub forward : (o : Own Mobile) (r : Role) (bs : List ℕ) (i : Instruction) → is_speed i ≡ false → i ≢ Reset → i ≢ HardReset → (mobile_rules.obeys o r bs i).rec.state.forward ≡ o.rec.state.forward
+  pub states : (o : Own Mobile) (r : Role) (bs : List ℕ) (i : Instruction) → ((on : Bool) (n : ℕ) → (i ≢ BinaryStateShort on n) × (i ≢ BinaryStateLong on n)) → i ≢ Reset → i ≢ HardReset → (mobile_rules.obeys o r bs i).rec.state.states ≡ o.rec.state.states
+
+-- a basic decoder switches the output that is named and no other, an extended one takes the aspect; no other instruction
+-- changes what they show, and none their address
+pub record AccessoriesShow : Type 0 where
+  pub output : (o : Own Basic) (r : Role) (bs : List ℕ) (n k : ℕ) (on : Bool) → length o.rec.state.shown ≡ 8 → k < 8 → slice_index_or (basic_rules.obeys o r bs (Output n on)).rec.state.shown k false ≡ cond (n % 8 == k) on (slice_index_or o.rec.state.shown k false)
+  pub aspect : (o : Own Extended) (r : Role) (bs : List ℕ) (n : ℕ) → (extended_rules.obeys o r bs (Aspect n)).rec.state.shown ≡ n
+  pub basic_others : (o : Own Basic) (r : Role) (bs : List ℕ) (i : Instruction) → ((n : ℕ) (on : Bool) → i ≢ Output n on) → (basic_rules.obeys o r bs i).rec.state.shown ≡ o.rec.state.shown
+  pub extended_others : (o : Own Extended) (r : Role) (bs : List ℕ) (i : Instruction) → ((n : ℕ) → i ≢ Aspect n) → (extended_rules.obeys o r bs i).rec.state.shown ≡ o.rec.state.shown
+  pub basic_address : (o : Own Basic) (r : Role) (bs : List ℕ) (i : Instruction) → (basic_rules.obeys o r bs i).rec.address ≡ o.rec.address
+  pub extended_address : (o : Own Extended) (r : Role) (bs : List ℕ) (i : Instruction) → (extended_rules.obeys o r bs i).rec.address ≡ o.rec.address
+
+-- the consist address by which it hears is that of its consist
+abbrev pub HearsItsConsist : Type 0
+HearsItsConsist = (o : Own Mobile) (a : ℕ) → mobile_rules.hears o (target.Short a) ≡ Some role.Consist → consist_of (mobile_view o.vars None) ≡ Some a
+
 pub record Laws : Type 0 where
   pub mobiles : KindLaws mobile_rules
   pub basics : KindLaws basic_rules
@@ -204,3 +261,21 @@ pub record Laws : Type 0 where
   pub kinds : HearsItsKind
   pub silent : SilentByOwnVariable
   pub states : StatesSwitchOne
+  pub states_together : StatesSwitchTogether
+  pub functions_told : FunctionsTold
+  pub speed_codes : SpeedsInOrder
+  pub speed_acts : SpeedActs
+  pub broadcasts : HearsAll
+  pub puts : InstructionsPut
+  pub mobile_verifies : VerifiesTell mobile_rules (λ x. x.state.reply)
+  pub basic_verifies : VerifiesTell basic_rules (λ x. x.state.reply)
+  pub extended_verifies : VerifiesTell extended_rules (λ x. x.state.reply)
+  pub mobile_writes : WritesTake mobile_rules (λ x. x.state.reply)
+  pub basic_writes : WritesTake basic_rules (λ x. x.state.reply)
+  pub extended_writes : WritesTake extended_rules (λ x. x.state.reply)
+  pub power_up : PowersUp
+  pub fits : Fits
+  pub others_keep : OthersKeep
+  pub accessories : AccessoriesShow
+  pub consist_address : HearsItsConsist
+  pub packets_wait : PacketsWait

@@ -8,4 +8,7 @@ pub mod Alone
 pub mod Fitted
 pub mod Persistence
 pub mod Examples
+pub mod LongForms
+pub mod Beginnings
+pub mod Going
 pub mod Laws

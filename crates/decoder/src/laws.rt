@@ -12,8 +12,8 @@ pub fn variables_persist()
     ensures { Persistence }
 {}
 
-/// What the rules come to: who hears what, who keeps what, when a reply comes, what a reset and a consist change, which
-/// functions a group switches.
+/// What the rules come to: who hears what, who keeps what, what verifies and writes are answered, how speed, a consist and a
+/// reset act, which functions, states and outputs are switched, and how a decoder begins.
 pub fn rules_keep()
     ensures { RulesKeep }
 {}
