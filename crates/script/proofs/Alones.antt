@@ -21,7 +21,7 @@ use Rattle.script.proofs.Lives.{lives_none, lives_more, kind_lives}
 use Rattle.script.proofs.Names.{of_kind-map, changed_under}
 
 -- all meet a record
-under_met : (n : DecoderName) (t : Thing) (ds : List Decoder) → decoder_of n (map (met t) ds) ≡ option_map (met t) (decoder_of n ds)
+pub under_met : (n : DecoderName) (t : Thing) (ds : List Decoder) → decoder_of n (map (met t) ds) ≡ option_map (met t) (decoder_of n ds)
 under_met n t ds = of_kind-map (met t) kind_of kind_of (λ d. kind_lives (meets d t) d) n.kind n.number ds
 
 module _ (n : DecoderName) where

@@ -5,3 +5,6 @@ pub mod Alones
 pub mod Persists
 pub mod Numbers
 pub mod Runs
+pub mod Counted
+pub mod Requested
+pub mod Addressed

@@ -1,0 +1,59 @@
+-- What the counts of a block have to do with the block, and with what each decoder meets of it.
+use Rattle.std.specs.Prelude.{◌≡◌, ℕ, suc, ◌+◌, ◌≤◌, cond, List, [], ◌∷◌, is_err, Some, None, Ok, Err, Option}
+use Rattle.fault.specs.declared.fault.Fault.{Fault}
+use Rattle.fault.specs.Places.{fault_at}
+use Rattle.format.specs.Reading.{Told, packet_read}
+use Rattle.block.specs.declared.summary.Survey.{Survey}
+use Rattle.block.specs.Contents.{Thing}
+use Rattle.block.specs.Contents.Thing.{fill, power_up, packet}
+use Rattle.block.specs.Reading.{reading, carried}
+use Rattle.block.specs.Summing.{surveyed}
+use Rattle.block.specs.Laws.{packets_of}
+use Rattle.decoder.specs.Alone.{Event}
+use Rattle.decoder.specs.Alone.Event.{heard, powered, setting}
+use Rattle.script.specs.declared.name.DecoderName.{DecoderName}
+use Rattle.script.specs.declared.taken.Taken.{Taken}
+use Rattle.script.specs.Decoders.{Decoder, decoder_of}
+use Rattle.script.specs.Calls.{taking, given}
+use Rattle.script.specs.Promises.{in_records}
+
+-- how many of the packets are refused
+abbrev pub refused_among : List (List ℕ) → ℕ
+refused_among [] = 0
+refused_among (p ∷ ps) = cond (is_err (packet_read p)) (suc (refused_among ps)) (refused_among ps)
+
+-- the refusal of a packet whose kind byte stands at o, else a later one
+abbrev pub refused_first : Told → ℕ → Option Fault → Option Fault
+refused_first (Ok p) o later = later
+refused_first (Err e) o later = Some (fault_at e o)
+
+-- that of the first packet that is refused
+abbrev pub first_refused : List (ℕ × Thing) → Option Fault
+first_refused [] = None
+first_refused ((o, fill) ∷ rs) = first_refused rs
+first_refused ((o, power_up) ∷ rs) = first_refused rs
+first_refused ((o, packet p) ∷ rs) = refused_first (packet_read p) o (first_refused rs)
+
+-- how many of the events are packets that are heard
+abbrev pub heard_among : List Event → ℕ
+heard_among [] = 0
+heard_among (heard p ∷ es) = suc (heard_among es)
+heard_among (powered ∷ es) = heard_among es
+heard_among (setting cv x ∷ es) = heard_among es
+
+-- what a block that is taken answers, t, and what a survey of it does, s
+pub record CountsAgree (b : List ℕ) (t : Taken) (s : Survey) : Type 0 where
+  -- each packet that the block carries is heard, unheard or refused
+  pub packets : t.heard + t.unheard + t.refused ≡ s.packets
+  -- as many are refused as do not read, whatever decoders there are, and the first of them is told
+  pub refused : t.refused ≡ refused_among (packets_of b)
+  pub first : t.refusal ≡ first_refused (carried (reading b))
+  pub fault : t.fault ≡ s.fault
+
+pub record CountsAddUp : Type 0 where
+  -- a block is refused where a survey of it is, and in the same way
+  pub refused : (ds : List Decoder) (b : List ℕ) (e : Fault) → surveyed b ≡ Err e → taking ds b ≡ Err e
+  pub agree : (ds : List Decoder) (b : List ℕ) (s : Survey) → surveyed b ≡ Ok s → (t : Taken) × (taking ds b ≡ Ok t) × CountsAgree b t s
+  -- what one decoder hears of a block is heard, and nothing else is where there is only that one
+  pub alone : (d : Decoder) (b : List ℕ) (t : Taken) → taking (d ∷ []) b ≡ Ok t → t.heard ≡ heard_among (in_records d (given b))
+  pub each : (ds : List Decoder) (n : DecoderName) (d : Decoder) (b : List ℕ) (t : Taken) → decoder_of n ds ≡ Some d → taking ds b ≡ Ok t → heard_among (in_records d (given b)) ≤ t.heard

@@ -1,0 +1,18 @@
+ghost use Rattle.script.specs.Addresses.{FittingsAnswered};
+ghost use Rattle.script.specs.Asked.{RequestsAnswered};
+ghost use Rattle.script.specs.Laws.{CountsAddUp};
+
+/// As many packets of a block are heard, unheard and refused together as it carries, and what a decoder hears is heard.
+pub fn counts_add_up()
+    ensures { CountsAddUp }
+{}
+
+/// A setting is read back, and what is told of functions and binary states is what stands.
+pub fn requests_answered()
+    ensures { RequestsAnswered }
+{}
+
+/// The addresses that are fitted are those of packets to one decoder, and a fitting is refused for its first cause.
+pub fn fittings_answered()
+    ensures { FittingsAnswered }
+{}
