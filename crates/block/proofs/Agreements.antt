@@ -1,16 +1,17 @@
 -- The laws of surveys and of what is handed out. Assumes nothing.
-use Rattle.std.proofs.Common.{◌≡◌, ℕ, suc, ◌+◌, List, [], ◌∷◌, length, slice_get, Ok, sym, refl, ap, ◌∙◌, arith}
-use Rattle.std.proofs.lemmas.Bool.{cond-true}
+use Rattle.std.proofs.Common.{◌≡◌, ℕ, suc, ◌+◌, ◌<◌, ◌≤◌, true, false, ◌⊎◌, ⊎_elim, List, [], ◌∷◌, length, slice_get, Ok, sym, refl, ap, ◌∙◌, arith}
+use Rattle.std.proofs.lemmas.Bool.{cond-true, cond-false}
+use Rattle.std.proofs.lemmas.Bool.Decides.{nat_tests}
 use Rattle.std.specs.Option.{ok_or}
 use Rattle.fault.specs.declared.refusal.Refusal.TheVariants.{NumberOutOfRange}
 use Rattle.fault.specs.Places.{fault_at}
 use Rattle.block.specs.declared.summary.Survey.{Survey}
-use Rattle.block.specs.Contents.{Thing}
+use Rattle.block.specs.Contents.{Thing, is_block_length}
 use Rattle.block.specs.Contents.Thing.{fill, power_up, packet}
 use Rattle.block.specs.Reading.{reading, carried}
 use Rattle.block.specs.Summing.{summed, surveyed, packet_count, power_up_count}
 use Rattle.block.specs.Tiling.{Tiles}
-use Rattle.block.specs.Laws.{packets_among, HandsOutEach, CountsEach, PacketsAgree}
+use Rattle.block.specs.Laws.{packets_among, RefusesLengths, SurveysOthers, HandsOutEach, CountsEach, PacketsAgree}
 use Rattle.block.proofs.Handings.{packets, places}
 use Rattle.block.proofs.Tilings.{sound}
 
@@ -48,5 +49,17 @@ counts_each b s e =
     let u : s.power_ups ≡ power_up_count (carried (reading b)) = ap (λ (t : Survey). t.power_ups) is in
     (p ∙ counted (carried (reading b)), omega (arith, p, u, all_counted b (carried (reading b)) 0 _ (sound b).0))
 
+a_length : (n : ℕ) → 1 ≤ n → n ≤ 512 → is_block_length n ≡ true
+a_length n low high = grind (arith, nat_tests)
+
+no_length : (n : ℕ) → (n ≡ 0) ⊎ (512 < n) → is_block_length n ≡ false
+no_length n h = ⊎_elim (λ e. grind (arith, nat_tests)) (λ l. grind (arith, nat_tests)) h
+
+refuses : RefusesLengths
+refuses b h = let e = no_length (length b) h in record { checked = cond-false _ _ _ e; handed = λ n. cond-false _ _ _ e; survey = cond-false _ _ _ e }
+
+surveys : SurveysOthers
+surveys b low high = let e = a_length (length b) low high in (cond-true _ _ _ e, (summed (length b) (reading b), cond-true _ _ _ e))
+
 pub laws : PacketsAgree
-laws = record { hands_out = hands_out_each; counts = counts_each }
+laws = record { refuses = refuses; surveys = surveys; hands_out = hands_out_each; counts = counts_each }

@@ -1,11 +1,11 @@
 -- What a survey and the handing out of packets have to do with each other.
-use Rattle.std.specs.Prelude.{◌≡◌, ℕ, ◌+◌, true, List, [], ◌∷◌, length, Ok}
+use Rattle.std.specs.Prelude.{◌≡◌, ℕ, ◌+◌, ◌<◌, ◌≤◌, ◌⊎◌, true, List, [], ◌∷◌, length, Ok, Err}
 use Rattle.std.specs.List.{slice_get}
 use Rattle.std.specs.Option.{ok_or}
-use Rattle.fault.specs.declared.refusal.Refusal.TheVariants.{NumberOutOfRange}
+use Rattle.fault.specs.declared.refusal.Refusal.TheVariants.{BlockLength, NumberOutOfRange}
 use Rattle.fault.specs.Places.{fault_at}
 use Rattle.block.specs.declared.summary.Survey.{Survey}
-use Rattle.block.specs.Contents.{Thing, is_block_length}
+use Rattle.block.specs.Contents.{Thing, is_block_length, length_checked}
 use Rattle.block.specs.Contents.Thing.{fill, power_up, packet}
 use Rattle.block.specs.Handing.{handed_out}
 use Rattle.block.specs.Reading.{reading, carried}
@@ -30,6 +30,20 @@ HandsOutEach = (b : List ℕ) (n : ℕ) → is_block_length (length b) ≡ true 
 abbrev pub CountsEach : Type 0
 CountsEach = (b : List ℕ) (s : Survey) → surveyed b ≡ Ok s → (s.packets ≡ length (packets_of b)) × (s.packets + s.power_ups ≡ length (carried (reading b)))
 
+-- a block of no bytes or of more than 512 is refused by each call, and any other is surveyed
+pub record LengthsRefused (b : List ℕ) : Type 0 where
+  pub checked : length_checked (length b) ≡ Err (fault_at BlockLength 0)
+  pub handed : (n : ℕ) → handed_out b n ≡ Err (fault_at BlockLength 0)
+  pub survey : surveyed b ≡ Err (fault_at BlockLength 0)
+
+abbrev pub RefusesLengths : Type 0
+RefusesLengths = (b : List ℕ) → (length b ≡ 0) ⊎ (512 < length b) → LengthsRefused b
+
+abbrev pub SurveysOthers : Type 0
+SurveysOthers = (b : List ℕ) → 1 ≤ length b → length b ≤ 512 → (length_checked (length b) ≡ Ok tt) × ((s : Survey) × (surveyed b ≡ Ok s))
+
 pub record PacketsAgree : Type 0 where
+  pub refuses : RefusesLengths
+  pub surveys : SurveysOthers
   pub hands_out : HandsOutEach
   pub counts : CountsEach

@@ -24,7 +24,8 @@ use Rattle.roster.proofs.Counts.{count_cong}
 use Rattle.roster.proofs.Alike.{one_and_others, SameBanksBut, with_bank, others_stay, same_lent}
 use Rattle.roster.proofs.Decks.{SameRecord, is_kind_lem}
 use Rattle.roster.proofs.Askings.{wrote_beyond}
-use Rattle.roster.proofs.Sendings.{Enough, enough, lent_from}
+use Rattle.script.specs.Lending.{IsEnough}
+use Rattle.script.proofs.Lendings.{enough, lent_from}
 use Rattle.board.specs.Slots.{AddedAs, Added}
 use Rattle.board.specs.Joins.{Joined, Joins}
 
@@ -153,7 +154,7 @@ module _ (f : Fit) (ks ks₁ : List Kind) (l l' : Lent) (others : SameBanksBut (
     sizes : (i : Kind) → bank_size i l' ≡ bank_size i l
     sizes = one_and_others (λ i. bank_size i l' ≡ bank_size i l) k (ap length added.records ∙ length-set (bank_of k l) j new.rec) (λ i q. ap length (others i q))
 
-    enough_places : Enough ks l → (i : Kind) → count_of (ks ++ k ∷ []) i ≤ bank_size i l'
+    enough_places : IsEnough ks l → (i : Kind) → count_of (ks ++ k ∷ []) i ≤ bank_size i l'
     enough_places e =
         one_and_others (λ i. count_of (ks ++ k ∷ []) i ≤ bank_size i l') k
         (omega (arith, count_last ks k k, ap {B = ℕ} (λ b. cond b 1 0) (same_self k), room.number, room.place, sizes k))

@@ -11,3 +11,4 @@ pub mod Verified
 pub mod Begun
 pub mod Gone
 pub mod Showings
+pub mod Grouped

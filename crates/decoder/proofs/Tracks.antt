@@ -30,6 +30,7 @@ use Rattle.decoder.specs.Alone.Event.{heard}
 use Rattle.decoder.proofs.Begun.{powers_up, fits}
 use Rattle.decoder.proofs.Consists.{hard_resets, speed_in_consist, instructions_put}
 use Rattle.decoder.proofs.Gone.{speeds_in_order, speed_acts, functions_told}
+use Rattle.decoder.proofs.Grouped.{groups_name_each}
 use Rattle.decoder.proofs.Hearings.{hears_its_own, has_an_address, hears_its_kind, hears_all, hears_its_consist}
 use Rattle.decoder.proofs.Same.{packets_wait}
 use Rattle.decoder.proofs.Showings.{others_keep as keeps_others, accessories_show}
@@ -289,6 +290,7 @@ laws = record {
   consists = only_speed;
   speeds = speed_in_consist;
   scales = λ s. s.within;
+  group_names = groups_name_each;
   groups = groups_switch;
   light = light_by_one;
   functions = others_keep;

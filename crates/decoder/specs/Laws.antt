@@ -101,6 +101,12 @@ StepsInScale = (s : Step) → s.number ≤ top s.scale
 abbrev pub is_in_group : FunctionGroup → ℕ → Bool
 is_in_group g k = nat_le (lowest_of g) k && nat_lt k (lowest_of g + width_of g)
 
+-- the groups name F1 to F68, each of them once
+pub record GroupsNameEach : Type 0 where
+  pub one : (k : ℕ) → 1 ≤ k → k ≤ 68 → (g : FunctionGroup) × (is_in_group g k ≡ true)
+  pub no_other : (g h : FunctionGroup) (k : ℕ) → is_in_group g k ≡ true → is_in_group h k ≡ true → g ≡ h
+  pub no_more : (g : FunctionGroup) (k : ℕ) → is_in_group g k ≡ true → (1 ≤ k) × (k ≤ 68)
+
 -- after a group is switched each function from F1 on is as its bit says if the group names it, else as it was
 abbrev pub GroupsSwitchTheirOwn : Type 0
 GroupsSwitchTheirOwn =
@@ -253,6 +259,7 @@ pub record Laws : Type 0 where
   pub consists : ByConsistOnlySpeed
   pub speeds : SpeedInConsist
   pub scales : StepsInScale
+  pub group_names : GroupsNameEach
   pub groups : GroupsSwitchTheirOwn
   pub light : LightByGroupOne
   pub functions : OthersKeepFunctions

@@ -35,7 +35,7 @@ use Rattle.roster.specs.declared.banks.Banks.{Banks}
 use Rattle.roster.specs.declared.banks.BanksMut.{BanksMut}
 use Rattle.roster.specs.Held.{seen, held, Located}
 use Rattle.roster.proofs.Alike.{each, one_and_others, rules_of, variables_as, lives_as, SameBanksBut, with_bank, others_stay, same_lent}
-use Rattle.roster.proofs.Sendings.{enough}
+use Rattle.script.proofs.Lendings.{enough}
 use Rattle.roster.proofs.Decks.{SameRecord, is_kind_lem, as_kind, found_at, found_none, changes_at, one_changed, get_or-decoders, rest_none}
 
 -- ---- the number of a variable

@@ -1,6 +1,6 @@
 -- One packet for all decoders.
-use Rattle.std.proofs.Common.{◌≡◌, ℕ, zero, suc, ◌*◌, ◌<◌, ◌≤◌, Bool, true, false, cond, ◌&&◌, ◌||◌, ltb, leb, List, [], ◌∷◌, map, length, get_or, is_some, Some, None, Ok, Err, Option, Result, sym, refl, ap, ◌∙◌, subst, ap₂, ◌⊎◌, ⊎_elim, true≢false, arith}
-use Rattle.std.proofs.lemmas.Bool.{leb-true, le-leb, and_parts, and_from, cases_Bool, cond-true}
+use Rattle.std.proofs.Common.{◌≡◌, ℕ, zero, suc, ◌*◌, ◌<◌, ◌≤◌, Bool, true, false, cond, ◌&&◌, ◌||◌, ltb, List, [], ◌∷◌, map, length, get_or, is_some, Some, None, Ok, Err, Option, Result, sym, refl, ap, ◌∙◌, subst, ap₂, ◌⊎◌, ⊎_elim, true≢false, arith}
+use Rattle.std.proofs.lemmas.Bool.{le-leb, and_from, cases_Bool, cond-true}
 use Rattle.fault.specs.declared.fault.Fault.{Fault}
 use Rattle.fault.specs.declared.refusal.Refusal.{Refusal}
 use Rattle.packet.specs.declared.instruction.Instruction.{Instruction}
@@ -25,7 +25,9 @@ use Rattle.bank.proofs.Counts.{count_less, count_none, count_skip, passes_at}
 use Rattle.bank.proofs.Turns.{after_turned, before_turned, kept_beyond}
 use Rattle.script.specs.Decoders.{Decoder, lives, hears, RecordOf, decoder_as}
 use Rattle.script.specs.Decoders.Decoder.{mobile, basic, extended}
-use Rattle.script.specs.Boards.{Lent, lent, bank_of, bank_size, spare_of, is_lent, decoder_at, decoders, Rest}
+use Rattle.script.specs.Lending.{IsEnough}
+use Rattle.script.proofs.Lendings.{enough, lent_from}
+use Rattle.script.specs.Boards.{Lent, lent, bank_of, spare_of, is_lent, decoder_at, decoders, Rest}
 use Rattle.script.specs.Calls.{met, some_hears}
 use Rattle.script.proofs.Lives.{lives_none}
 use Rattle.roster.proofs.Alike.{each, rules_of, lives_as, hears_as}
@@ -99,23 +101,6 @@ module _ {X : Type 0} (m : Rules X) (t : Target) (h : ℕ → Bool) (bank : List
 
 -- ---- what is lent is enough
 
-pub record Enough (ks : List Kind) (l : Lent) : Type 0 where
-  pub records : (k : Kind) → count_of ks k ≤ bank_size k l
-  pub cells : 1024 * length ks ≤ length l.cells
-
-pub enough : (ks : List Kind) (l : Lent) → is_lent ks l ≡ true → Enough ks l
-enough ks l e =
-    let a = and_parts (has_records ks Mobile l.mobiles) (has_records ks Basic l.basics && (has_records ks Extended l.extendeds && leb (1024 * length ks) (length l.cells))) e in
-    let b = and_parts (has_records ks Basic l.basics) (has_records ks Extended l.extendeds && leb (1024 * length ks) (length l.cells)) a.1 in
-    let c = and_parts (has_records ks Extended l.extendeds) (leb (1024 * length ks) (length l.cells)) b.1 in
-    record {
-      records = each (λ k. count_of ks k ≤ bank_size k l) (leb-true (count_of ks Mobile) (length l.mobiles) a.0) (leb-true (count_of ks Basic) (length l.basics) b.0) (leb-true (count_of ks Extended) (length l.extendeds) c.0);
-      cells = leb-true (1024 * length ks) (length l.cells) c.1;
-    }
-
-pub lent_from : (ks : List Kind) (l : Lent) → Enough ks l → is_lent ks l ≡ true
-lent_from ks l r = and_from _ _ (le-leb _ _ (r.records Mobile)) (and_from _ _ (le-leb _ _ (r.records Basic)) (and_from _ _ (le-leb _ _ (r.records Extended)) (le-leb _ _ r.cells)))
-
 pub still_lent : {ks : List Kind} {l l' : Lent} → Rest ks l l' → is_lent ks l ≡ true → is_lent ks l' ≡ true
 still_lent {ks} {l} {l'} r e =
     let h = enough ks l e in
@@ -123,7 +108,7 @@ still_lent {ks} {l} {l'} r e =
 
 -- ---- all decoders
 
-module _ (ks : List Kind) (l : Lent) (room : Enough ks l) (bs : List ℕ) (q : Packet) (told : packet_read bs ≡ Ok q) where
+module _ (ks : List Kind) (l : Lent) (room : IsEnough ks l) (bs : List ℕ) (q : Packet) (told : packet_read bs ≡ Ok q) where
   abbrev heard_of : (k : Kind) → List ℕ → ℕ → Bool
   heard_of k c = hears_at (rules_of k) q.target (is_kind ks k) (bank_of k l) c
 
@@ -233,7 +218,7 @@ module _ (ks : List Kind) (l l' : Lent) (c₁ c₂ : List ℕ) (bs : List ℕ) (
     all_turned Extended = before_turned e.turned (λ s _ h. past_basics Extended refl s h ∙ past_mobiles Extended refl s h)
 
     -- who hears does so by the cells as they were before all three
-    some_by_counts : Enough ks l → some_hears (decoders ks l) bs ≡ (ltb 0 i || (ltb 0 j || ltb 0 k))
+    some_by_counts : IsEnough ks l → some_hears (decoders ks l) bs ≡ (ltb 0 i || (ltb 0 j || ltb 0 k))
     unfolding decoders
     some_by_counts room =
         some_hear (decoder_at ks l) bs (heard_of ks l room bs q told Mobile l.cells) (heard_of ks l room bs q told Basic l.cells) (heard_of ks l room bs q told Extended l.cells) (length ks) (each_hears ks l room bs q told)
@@ -241,7 +226,7 @@ module _ (ks : List Kind) (l l' : Lent) (c₁ c₂ : List ℕ) (bs : List ℕ) (
         (b.count ∙ count_cong _ _ (length ks) (λ s _. hears_same basic_rules q.target (is_kind ks Basic) l.basics l.cells c₁ s (past_mobiles Basic refl s)))
         (e.count ∙ count_cong _ _ (length ks) (λ s _. hears_same extended_rules q.target (is_kind ks Extended) l.extendeds l.cells c₂ s (λ h. past_basics Extended refl s h ∙ past_mobiles Extended refl s h)))))
 
-    pub sent_to_all : Enough ks l → l'.outside ≡ l.outside → Sent ks l l' bs (ltb 0 i || (ltb 0 j || ltb 0 k))
+    pub sent_to_all : IsEnough ks l → l'.outside ≡ l.outside → Sent ks l l' bs (ltb 0 i || (ltb 0 j || ltb 0 k))
     sent_to_all room outside = record {
       answer = sym (some_by_counts room);
       after = by_kinds ks l l' (λ k. after_hearing (rules_of k) bs q.target q.instruction) all_turned (met (packet bs)) (met_as bs q told);
@@ -252,7 +237,7 @@ module _ (ks : List Kind) (l l' : Lent) (c₁ c₂ : List ℕ) (bs : List ℕ) (
 
 -- ---- one delivery, to the kind that the target is of; the other two are none
 
-module _ {ks : List Kind} {l : Lent} {bs : List ℕ} {q : Packet} (told : packet_read bs ≡ Ok q) (room : Enough ks l) where
+module _ {ks : List Kind} {l : Lent} {bs : List ℕ} {q : Packet} (told : packet_read bs ≡ Ok q) (room : IsEnough ks l) where
   pub sent_to_none : q.target ≡ target.Idle → Sent ks l l bs false
   sent_to_none e =
       sent_to_all ks l l l.cells l.cells bs q told 0 0 0 (undelivered ks Mobile (idle_deaf e Mobile) room.cells) (undelivered ks Basic (idle_deaf e Basic) room.cells) (undelivered ks Extended (idle_deaf e Extended) room.cells) room refl

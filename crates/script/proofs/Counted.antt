@@ -1,6 +1,7 @@
 -- The laws of the counts of a block. Assumes nothing.
-use Rattle.std.proofs.Common.{◌≡◌, ℕ, zero, suc, ◌+◌, ◌≤◌, Bool, true, false, cond, ◌||◌, List, [], ◌∷◌, ◌++◌, map, length, is_err, is_some, Some, None, Ok, Err, Option, option_map, Result, sym, refl, ap, ◌∙◌, arith}
-use Rattle.std.proofs.lemmas.Bool.{true≢false, false≢true, cond-true}
+use Rattle.std.proofs.Common.{◌≡◌, ℕ, zero, suc, ◌+◌, ◌<◌, ◌≤◌, ◌⊎◌, ⊎_elim, Bool, true, false, cond, ◌||◌, List, [], ◌∷◌, ◌++◌, map, length, is_err, is_some, Some, None, Ok, Err, Option, option_map, Result, sym, refl, ap, ◌∙◌, arith}
+use Rattle.std.proofs.lemmas.Bool.{true≢false, false≢true, cond-true, cond-false}
+use Rattle.std.proofs.lemmas.Bool.Decides.{nat_tests}
 use Rattle.std.proofs.lemmas.Option.{none-some}
 use Rattle.std.specs.Option.{unwrap_or}
 use Rattle.fault.specs.declared.fault.Fault.{Fault}
@@ -152,14 +153,10 @@ module _ (n : DecoderName) where
 
 -- ---- a block
 
--- what is answered, and a refusal as one of another kind of answers
+-- what is answered
 abbrev answer_or : {A : Type 0} → A → Result A Fault → A
 answer_or x (Ok y) = y
 answer_or x (Err e) = x
-
-abbrev refusal_of : {A B : Type 0} → B → Result A Fault → Result B Fault
-refusal_of x (Ok y) = Ok x
-refusal_of x (Err e) = Err e
 
 -- what is not refused has a good length
 good : {A : Type 0} (c : Bool) (x y : A) (e : Fault) → cond c (Ok x) (Err e) ≡ Ok y → (c ≡ true) × (y ≡ x)
@@ -169,9 +166,14 @@ good false x y e f = let z : ◌≡◌ {A = ℕ} 0 1 = cc in absurd (omega arith
 given_all : (b : List ℕ) → is_block_length (length b) ≡ true → given b ≡ carried (reading b)
 given_all b e = cond-true _ _ _ e
 
-refused_so : (c : Bool) (x : Taken) (y : Survey) (e f : Fault) → cond c (Ok y) (Err e) ≡ Err f → cond c (Ok x) (Err e) ≡ Err f
-refused_so true x y e f h = let z : ◌≡◌ {A = ℕ} 0 1 = cc in absurd (omega arith)
-refused_so false x y e f h = ap (refusal_of x) h
+is_long : (n : ℕ) → 1 ≤ n → n ≤ 512 → is_block_length n ≡ true
+is_long n low high = grind (arith, nat_tests)
+
+is_not : (n : ℕ) → (n ≡ 0) ⊎ (512 < n) → is_block_length n ≡ false
+is_not n h = ⊎_elim (λ e. grind (arith, nat_tests)) (λ l. grind (arith, nat_tests)) h
+
+refused : (ds : List Decoder) (b : List ℕ) → (length b ≡ 0) ⊎ (512 < length b) → (surveyed b ≡ Err (fault_at BlockLength 0)) × (taking ds b ≡ Err (fault_at BlockLength 0)) × (given b ≡ [])
+refused ds b h = let e = is_not (length b) h in (cond-false _ _ _ e, cond-false _ _ _ e, cond-false _ _ _ e)
 
 agree : (ds : List Decoder) (b : List ℕ) (s : Survey) → surveyed b ≡ Ok s → (t : Taken) × (taking ds b ≡ Ok t) × CountsAgree b t s
 unfolding first_of
@@ -192,7 +194,8 @@ agree ds b s e =
 
 pub laws : CountsAddUp
 laws = record {
-  refused = λ ds b e h. refused_so (is_block_length (length b)) _ _ _ e h;
+  refused = refused;
+  surveys = λ b low high. (summed (length b) (reading b), cond-true _ _ _ (is_long (length b) low high));
   agree = agree;
   alone = alone;
   each = each;

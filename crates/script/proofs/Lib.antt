@@ -8,3 +8,4 @@ pub mod Runs
 pub mod Counted
 pub mod Requested
 pub mod Addressed
+pub mod Lendings

@@ -1,6 +1,7 @@
 -- What the counts of a block have to do with the block, and with what each decoder meets of it.
-use Rattle.std.specs.Prelude.{◌≡◌, ℕ, suc, ◌+◌, ◌≤◌, cond, List, [], ◌∷◌, is_err, Some, None, Ok, Err, Option}
+use Rattle.std.specs.Prelude.{◌≡◌, ℕ, suc, ◌+◌, ◌<◌, ◌≤◌, ◌⊎◌, cond, List, [], ◌∷◌, length, is_err, Some, None, Ok, Err, Option}
 use Rattle.fault.specs.declared.fault.Fault.{Fault}
+use Rattle.fault.specs.declared.refusal.Refusal.TheVariants.{BlockLength}
 use Rattle.fault.specs.Places.{fault_at}
 use Rattle.format.specs.Reading.{Told, packet_read}
 use Rattle.block.specs.declared.summary.Survey.{Survey}
@@ -51,8 +52,10 @@ pub record CountsAgree (b : List ℕ) (t : Taken) (s : Survey) : Type 0 where
   pub fault : t.fault ≡ s.fault
 
 pub record CountsAddUp : Type 0 where
-  -- a block is refused where a survey of it is, and in the same way
-  pub refused : (ds : List Decoder) (b : List ℕ) (e : Fault) → surveyed b ≡ Err e → taking ds b ≡ Err e
+  -- a block of no bytes or of more than 512 is refused, as a survey of it is, and gives nothing to the decoders
+  pub refused : (ds : List Decoder) (b : List ℕ) → (length b ≡ 0) ⊎ (512 < length b) → (surveyed b ≡ Err (fault_at BlockLength 0)) × (taking ds b ≡ Err (fault_at BlockLength 0)) × (given b ≡ [])
+  -- any other is surveyed, and where it is, it is taken
+  pub surveys : (b : List ℕ) → 1 ≤ length b → length b ≤ 512 → (s : Survey) × (surveyed b ≡ Ok s)
   pub agree : (ds : List Decoder) (b : List ℕ) (s : Survey) → surveyed b ≡ Ok s → (t : Taken) × (taking ds b ≡ Ok t) × CountsAgree b t s
   -- what one decoder hears of a block is heard, and nothing else is where there is only that one
   pub alone : (d : Decoder) (b : List ℕ) (t : Taken) → taking (d ∷ []) b ≡ Ok t → t.heard ≡ heard_among (in_records d (given b))

@@ -6,3 +6,4 @@ pub mod Promises
 pub mod Laws
 pub mod Asked
 pub mod Addresses
+pub mod Lending

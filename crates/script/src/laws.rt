@@ -1,6 +1,7 @@
 ghost use Rattle.script.specs.Addresses.{FittingsAnswered};
 ghost use Rattle.script.specs.Asked.{RequestsAnswered};
 ghost use Rattle.script.specs.Laws.{CountsAddUp};
+ghost use Rattle.script.specs.Lending.{LendingsAnswered};
 
 /// As many packets of a block are heard, unheard and refused together as it carries, and what a decoder hears is heard.
 pub fn counts_add_up()
@@ -15,4 +16,9 @@ pub fn requests_answered()
 /// The addresses that are fitted are those of packets to one decoder, and a fitting is refused for its first cause.
 pub fn fittings_answered()
     ensures { FittingsAnswered }
+{}
+
+/// A board that is lent too little refuses, and nothing changes; else it answers by its decoders.
+pub fn lendings_answered()
+    ensures { LendingsAnswered }
 {}

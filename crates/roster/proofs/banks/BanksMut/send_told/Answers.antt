@@ -2,7 +2,8 @@ use Rattle.std.proofs.Common.{false, nat_lt}
 use Rattle.bank.specs.declared.kind.Kind.TheVariants.{Mobile, Basic, Extended}
 use Rattle.script.specs.Boards.{lent}
 use Rattle.roster.specs.Held.{held}
-use Rattle.roster.proofs.Sendings.{Sent, enough, delivered, sent_to_none, sent_to_mobiles, sent_to_basics, sent_to_extendeds}
+use Rattle.script.proofs.Lendings.{enough}
+use Rattle.roster.proofs.Sendings.{Sent, delivered, sent_to_none, sent_to_mobiles, sent_to_basics, sent_to_extendeds}
 use Rattle.roster.proofs.banks.BanksMut.send_told.Given.{Over}
 use Rattle.roster.proofs.banks.BanksMut.send_told.Goals.{In-Idle, After-unwrap, After-unwrap-in-Basic, After-unwrap-in-Extended}
 use Rattle.roster.proofs.banks.BanksMut.send_told.Goals as goal
