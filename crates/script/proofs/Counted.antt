@@ -8,7 +8,9 @@ use Rattle.fault.specs.declared.fault.Fault.{Fault}
 use Rattle.fault.specs.declared.refusal.Refusal.{Refusal}
 use Rattle.fault.specs.declared.refusal.Refusal.TheVariants.{BlockLength}
 use Rattle.fault.specs.Places.{fault_at}
-use Rattle.format.specs.Reading.{Told, packet_read}
+use Rattle.packet.specs.declared.instruction.Instruction.{Instruction}
+use Rattle.packet.specs.declared.target.Target.TheVariants.{Idle}
+use Rattle.format.specs.Reading.{Told, packet_of, packet_read}
 use Rattle.block.specs.declared.summary.Survey.{Survey}
 use Rattle.block.specs.Contents.{Thing, is_block_length}
 use Rattle.block.specs.Contents.Thing.{fill, power_up, packet}
@@ -18,11 +20,14 @@ use Rattle.block.specs.Laws.{packets_among, packets_of}
 use Rattle.block.proofs.Agreements.{laws as blocks}
 use Rattle.bank.specs.declared.kind.Kind.{Kind}
 use Rattle.bank.specs.Kinds.{same_kind}
-use Rattle.decoder.specs.Alone.{Event, hearing, mobile_rules, basic_rules, extended_rules}
+use Rattle.decoder.specs.Alone.{Own, Rules, Event, hearing, obeyed, mobile_rules, basic_rules, extended_rules}
 use Rattle.decoder.specs.Alone.Event.{heard}
 use Rattle.script.specs.declared.name.DecoderName.{DecoderName}
+use Rattle.decoder.specs.declared.role.Role.{Role}
 use Rattle.script.specs.declared.taken.Taken.{Taken}
-use Rattle.script.specs.Decoders.{Decoder, kind_of, hears, of_kind, decoder_of}
+use Rattle.script.specs.declared.answer.Answer.{Answer}
+use Rattle.script.specs.declared.answer.Answer.TheVariants as answer
+use Rattle.script.specs.Decoders.{Decoder, kind_of, lives, hears, answered, of_kind, decoder_of}
 use Rattle.script.specs.Decoders.Decoder.{mobile, basic, extended}
 use Rattle.script.specs.Calls.{met, some_hears, outcome, sent, earlier, noted, counts, nothing_taken, taken_from, taking, given}
 use Rattle.script.specs.Promises.{in_records}
@@ -192,6 +197,36 @@ agree ds b s e =
       },
     )
 
+-- a packet that is not heard
+obeyed_none : {X : Type 0} (m : Rules X) (o : Own X) (bs : List ℕ) (h : Option (Role × Instruction)) → is_some h ≡ false → obeyed m o bs h ≡ o
+obeyed_none m o bs None e = refl
+obeyed_none m o bs (Some h) e = absurd (true≢false e)
+
+unheard : (d : Decoder) (bs : List ℕ) → hears d bs ≡ false → lives d (heard bs ∷ []) ≡ d
+unfolding hears lives
+unheard (mobile o) bs e = ap mobile (obeyed_none mobile_rules o bs _ e)
+unheard (basic o) bs e = ap basic (obeyed_none basic_rules o bs _ e)
+unheard (extended o) bs e = ap extended (obeyed_none extended_rules o bs _ e)
+
+idle : (d : Decoder) (bs : List ℕ) (i : Instruction) → packet_read bs ≡ Ok (packet_of Idle i) → hears d bs ≡ false
+unfolding hears
+idle (mobile o) bs i e = ap (λ r. is_some (hearing mobile_rules o r)) e
+idle (basic o) bs i e = ap (λ r. is_some (hearing basic_rules o r)) e
+idle (extended o) bs i e = ap (λ r. is_some (hearing extended_rules o r)) e
+
+-- the counts of an answer
+abbrev counts_in : Taken → Answer → Taken
+counts_in t (answer.Taken u) = u
+counts_in t answer.Set = t
+counts_in t (answer.State s) = t
+counts_in t (answer.Variable x) = t
+counts_in t (answer.Function on) = t
+counts_in t (answer.BinaryState on) = t
+
+taken_back : (r : Result Taken Fault) (t : Taken) → answered answer.Taken r ≡ Ok (answer.Taken t) → r ≡ Ok t
+taken_back (Ok u) t e = ap (λ x. Ok (counts_in u (answer_or (answer.Taken u) x))) e
+taken_back (Err f) t e = let z : ◌≡◌ {A = ℕ} 0 1 = cc in absurd (omega arith)
+
 pub laws : CountsAddUp
 laws = record {
   refused = refused;
@@ -199,6 +234,9 @@ laws = record {
   agree = agree;
   alone = alone;
   each = each;
+  unheard = unheard;
+  idle = idle;
+  answers = λ ds b t e. taken_back (taking ds b.now) t e;
 }
   where
     alone : (d : Decoder) (b : List ℕ) (t : Taken) → taking (d ∷ []) b ≡ Ok t → t.heard ≡ heard_among (in_records d (given b))

@@ -1,9 +1,12 @@
 -- What the counts of a block have to do with the block, and with what each decoder meets of it.
-use Rattle.std.specs.Prelude.{◌≡◌, ℕ, suc, ◌+◌, ◌<◌, ◌≤◌, ◌⊎◌, cond, List, [], ◌∷◌, length, is_err, Some, None, Ok, Err, Option}
+use Rattle.std.specs.Prelude.{◌≡◌, ℕ, suc, ◌+◌, ◌<◌, ◌≤◌, ◌⊎◌, cond, List, [], ◌∷◌, length, false, is_err, Some, None, Ok, Err, Option}
+use Rattle.std.specs.Borrow.{Bor}
 use Rattle.fault.specs.declared.fault.Fault.{Fault}
 use Rattle.fault.specs.declared.refusal.Refusal.TheVariants.{BlockLength}
 use Rattle.fault.specs.Places.{fault_at}
-use Rattle.format.specs.Reading.{Told, packet_read}
+use Rattle.packet.specs.declared.instruction.Instruction.{Instruction}
+use Rattle.packet.specs.declared.target.Target.TheVariants.{Idle}
+use Rattle.format.specs.Reading.{Told, packet_of, packet_read}
 use Rattle.block.specs.declared.summary.Survey.{Survey}
 use Rattle.block.specs.Contents.{Thing}
 use Rattle.block.specs.Contents.Thing.{fill, power_up, packet}
@@ -14,8 +17,10 @@ use Rattle.decoder.specs.Alone.{Event}
 use Rattle.decoder.specs.Alone.Event.{heard, powered, setting}
 use Rattle.script.specs.declared.name.DecoderName.{DecoderName}
 use Rattle.script.specs.declared.taken.Taken.{Taken}
-use Rattle.script.specs.Decoders.{Decoder, decoder_of}
-use Rattle.script.specs.Calls.{taking, given}
+use Rattle.script.specs.declared.call.Call.TheVariants.{Take}
+use Rattle.script.specs.declared.answer.Answer.TheVariants as answer
+use Rattle.script.specs.Decoders.{Decoder, lives, hears, decoder_of}
+use Rattle.script.specs.Calls.{taking, given, answer_to}
 use Rattle.script.specs.Promises.{in_records}
 
 -- how many of the packets are refused
@@ -60,3 +65,8 @@ pub record CountsAddUp : Type 0 where
   -- what one decoder hears of a block is heard, and nothing else is where there is only that one
   pub alone : (d : Decoder) (b : List ℕ) (t : Taken) → taking (d ∷ []) b ≡ Ok t → t.heard ≡ heard_among (in_records d (given b))
   pub each : (ds : List Decoder) (n : DecoderName) (d : Decoder) (b : List ℕ) (t : Taken) → decoder_of n ds ≡ Some d → taking ds b ≡ Ok t → heard_among (in_records d (given b)) ≤ t.heard
+  -- what it does not hear leaves it as it was, and nobody hears an idle packet
+  pub unheard : (d : Decoder) (bs : List ℕ) → hears d bs ≡ false → lives d (heard bs ∷ []) ≡ d
+  pub idle : (d : Decoder) (bs : List ℕ) (i : Instruction) → packet_read bs ≡ Ok (packet_of Idle i) → hears d bs ≡ false
+  -- the call that takes a block answers these counts
+  pub answers : (ds : List Decoder) (b : Bor (List ℕ)) (t : Taken) → answer_to ds (Take b) ≡ Ok (answer.Taken t) → taking ds b.now ≡ Ok t
