@@ -12,3 +12,4 @@ pub mod Begun
 pub mod Gone
 pub mod Showings
 pub mod Grouped
+pub mod Acts

@@ -27,6 +27,7 @@ use Rattle.state.specs.declared.volatile.MobileState.{MobileState}
 use Rattle.state.specs.declared.scale.Scale.TheVariants.{Fourteen, TwentyEight}
 use Rattle.decoder.specs.Alone.{Own, Rules, variable, named, applied, hearing, obeyed, live, mobile_rules, accessory_rules}
 use Rattle.decoder.specs.Alone.Event.{heard}
+use Rattle.decoder.proofs.Acts.{switches_act, acts_answered}
 use Rattle.decoder.proofs.Begun.{powers_up, fits}
 use Rattle.decoder.proofs.Consists.{hard_resets, speed_in_consist, instructions_put}
 use Rattle.decoder.proofs.Gone.{speeds_in_order, speed_acts, functions_told}
@@ -317,4 +318,6 @@ laws = record {
   accessories = accessories_show;
   consist_address = hears_its_consist;
   packets_wait = packets_wait;
+  switches_act = switches_act;
+  acts_answered = acts_answered;
 }

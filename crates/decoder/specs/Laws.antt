@@ -9,6 +9,7 @@ use Rattle.packet.specs.declared.target.Target.TheVariants as target
 use Rattle.packet.specs.Groups.{lowest_of, width_of}
 use Rattle.format.specs.Reading.{packet_read}
 use Rattle.state.specs.declared.step.Step.{Step}
+use Rattle.state.specs.declared.volatile.Reply.TheVariants.{Acknowledgment}
 use Rattle.state.specs.Bits.{bit_of, with_bit}
 use Rattle.state.specs.Groups.{switched, function_at}
 use Rattle.state.specs.Kept.{kept_after, state_at}
@@ -30,7 +31,7 @@ use Rattle.decoder.specs.Replies.{reply_after}
 use Rattle.decoder.specs.Mobiles.{is_speed, mobile_noted}
 use Rattle.decoder.specs.Alone.{Own, Rules, own, variable, hearing, live, mobile_view, mobile_rules, basic_rules, extended_rules}
 use Rattle.decoder.specs.Alone.Event.{heard}
-use Rattle.decoder.specs.LongForms.{PacketsWait, VerifiesTell, WritesTake}
+use Rattle.decoder.specs.LongForms.{RepliesEnabled, PacketsWait, VerifiesTell, WritesTake}
 use Rattle.decoder.specs.Beginnings.{PowersUp, Fits}
 use Rattle.decoder.specs.Going.{SpeedsInOrder, SpeedActs}
 
@@ -249,6 +250,45 @@ pub record AccessoriesShow : Type 0 where
 abbrev pub HearsItsConsist : Type 0
 HearsItsConsist = (o : Own Mobile) (a : ℕ) → mobile_rules.hears o (target.Short a) ≡ Some role.Consist → consist_of (mobile_view o.vars None) ≡ Some a
 
+-- by the own address or to all a group of functions switches those, and a binary state by its number that one
+pub record SwitchesAct : Type 0 where
+  pub group : (o : Own Mobile) (r : Role) (bs : List ℕ) (g : FunctionGroup) (bits : ℕ) → r ≢ role.Consist → (mobile_rules.obeys o r bs (Functions g bits)).rec.state.functions.on ≡ switched o.rec.state.functions.on g bits (bit_of (variable o.vars 29) 1)
+  pub short_state : (o : Own Mobile) (r : Role) (bs : List ℕ) (n : ℕ) (on : Bool) → r ≢ role.Consist → 1 ≤ n → (mobile_rules.obeys o r bs (BinaryStateShort on n)).rec.state.states.bits ≡ kept_after o.rec.state.states.bits n on
+  pub long_state : (o : Own Mobile) (r : Role) (bs : List ℕ) (n : ℕ) (on : Bool) → r ≢ role.Consist → 1 ≤ n → (mobile_rules.obeys o r bs (BinaryStateLong on n)).rec.state.states.bits ≡ kept_after o.rec.state.states.bits n on
+
+-- the instructions that a mobile decoder always takes by its own address
+abbrev pub always_acts : Instruction → Bool
+always_acts NoOperation = false
+always_acts Reset = true
+always_acts HardReset = true
+always_acts (AdvancedAddressing on) = true
+always_acts AcknowledgmentRequest = true
+always_acts (Consist reversed address) = true
+always_acts (Speed forward code) = false
+always_acts (Speed126 forward code) = false
+always_acts (Functions group bits) = true
+always_acts (BinaryStateShort on number) = true
+always_acts (BinaryStateLong on number) = false
+always_acts (AccelerationAdjustment value) = true
+always_acts (DecelerationAdjustment value) = true
+always_acts (VerifyByte cv value) = false
+always_acts (WriteByte cv value) = false
+always_acts (VerifyBit cv bit value) = false
+always_acts (WriteBit cv bit value) = false
+always_acts (Output number on) = false
+always_acts (Aspect number) = false
+
+-- while replies are enabled, these are acknowledged, and so are a binary state that is kept, an output and an aspect; a state
+-- above those is not, nor what is for another kind
+pub record ActsAnswered : Type 0 where
+  pub always : (o : Own Mobile) (bs : List ℕ) (i : Instruction) → RepliesEnabled mobile_rules o → always_acts i ≡ true → (mobile_rules.obeys o role.Own bs i).rec.state.reply ≡ Some Acknowledgment
+  pub state : (o : Own Mobile) (bs : List ℕ) (n : ℕ) (on : Bool) → RepliesEnabled mobile_rules o → n ≤ 2047 → (mobile_rules.obeys o role.Own bs (BinaryStateLong on n)).rec.state.reply ≡ Some Acknowledgment
+  pub no_state : (o : Own Mobile) (bs : List ℕ) (n : ℕ) (on : Bool) → 2048 ≤ n → (mobile_rules.obeys o role.Own bs (BinaryStateLong on n)).rec.state.reply ≡ None
+  pub output : (o : Own Basic) (bs : List ℕ) (n : ℕ) (on : Bool) → RepliesEnabled basic_rules o → (basic_rules.obeys o role.Own bs (Output n on)).rec.state.reply ≡ Some Acknowledgment
+  pub aspect : (o : Own Extended) (bs : List ℕ) (n : ℕ) → RepliesEnabled extended_rules o → (extended_rules.obeys o role.Own bs (Aspect n)).rec.state.reply ≡ Some Acknowledgment
+  pub basic_others : (o : Own Basic) (bs : List ℕ) (i : Instruction) → access_of i ≡ None → ((n : ℕ) (on : Bool) → i ≢ Output n on) → (basic_rules.obeys o role.Own bs i).rec.state.reply ≡ None
+  pub extended_others : (o : Own Extended) (bs : List ℕ) (i : Instruction) → access_of i ≡ None → ((n : ℕ) → i ≢ Aspect n) → (extended_rules.obeys o role.Own bs i).rec.state.reply ≡ None
+
 pub record Laws : Type 0 where
   pub mobiles : KindLaws mobile_rules
   pub basics : KindLaws basic_rules
@@ -286,3 +326,5 @@ pub record Laws : Type 0 where
   pub accessories : AccessoriesShow
   pub consist_address : HearsItsConsist
   pub packets_wait : PacketsWait
+  pub switches_act : SwitchesAct
+  pub acts_answered : ActsAnswered
