@@ -1,5 +1,5 @@
 -- The laws of the rules. Assumes nothing.
-use Rattle.std.proofs.Common.{◌≡◌, ℕ, ◌+◌, ◌-◌, ◌<◌, ◌≤◌, Bool, true, false, cond, not, ◌&&◌, ◌||◌, ltb, leb, ◌⊎◌, List, ◌++◌, length, get_or, take, drop, Some, None, Option, is_some, refl, ap, ◌∙◌, inl, inr, ⊎_elim, arith}
+use Rattle.std.proofs.Common.{◌≡◌, ℕ, ◌+◌, ◌-◌, ◌<◌, ◌≤◌, Bool, true, false, cond, not, ◌&&◌, ◌||◌, ltb, leb, ◌⊎◌, List, ◌++◌, length, get_or, take, drop, Some, None, Ok, Option, is_some, refl, ap, ◌∙◌, inl, inr, ⊎_elim, arith}
 use Rattle.std.proofs.lemmas.List.{get_or_append_left, get_or-append_right, get_or-take, get_or-drop, get_or-set_same, get_or-set_other, length-take-le, length-append}
 use Rattle.std.proofs.lemmas.Bool.{true≢false, false≢true, cases_lt}
 use Rattle.std.proofs.lemmas.Bool.Decides.{nat_tests}
@@ -8,7 +8,7 @@ use Rattle.packet.specs.declared.instruction.Instruction.{Instruction}
 use Rattle.packet.specs.declared.instruction.Instruction.TheVariants.{Reset, HardReset, Speed, Speed126, Functions, VerifyByte, WriteByte, VerifyBit, WriteBit}
 use Rattle.packet.specs.declared.target.Target.{Target}
 use Rattle.packet.specs.Groups.{lowest_of, width_of}
-use Rattle.format.specs.Reading.{packet_read}
+use Rattle.format.specs.Reading.{packet_of, packet_read}
 use Rattle.state.specs.declared.waiting.WaitingWrite.{WaitingWrite}
 use Rattle.state.specs.Bits.{bit_of}
 use Rattle.state.specs.Groups.{low_bits, pasted, lit, switched}
@@ -25,7 +25,7 @@ use Rattle.decoder.specs.Replies.{answer_of, reply_after}
 use Rattle.decoder.specs.Mobiles.{access_effect, sped, with_functions}
 use Rattle.state.specs.declared.volatile.MobileState.{MobileState}
 use Rattle.state.specs.declared.scale.Scale.TheVariants.{Fourteen, TwentyEight}
-use Rattle.decoder.specs.Alone.{Own, Rules, variable, named, applied, hearing, obeyed, live, mobile_rules, accessory_rules}
+use Rattle.decoder.specs.Alone.{Own, Rules, variable, named, applied, in_role, hearing, obeyed, live, mobile_rules, accessory_rules}
 use Rattle.decoder.specs.Alone.Event.{heard}
 use Rattle.decoder.proofs.Acts.{switches_act, acts_answered}
 use Rattle.decoder.proofs.Begun.{powers_up, fits}
@@ -44,6 +44,9 @@ use Rattle.decoder.specs.Laws.{KindLaws, SilentByOwnVariable, ReplyNeedsAll, Res
 module _ {X : Type 0} (m : Rules X) where
   unheard : (o : Own X) (bs : List ℕ) → hearing m o (packet_read bs) ≡ None → live m o (heard bs) ≡ o
   unheard o bs e = ap (obeyed m o bs) e
+
+  obeys : (o : Own X) (t : Target) (r : Role) (bs : List ℕ) (i : Instruction) → packet_read bs ≡ Ok (packet_of t i) → m.hears o t ≡ Some r → live m o (heard bs) ≡ m.obeys o r bs i
+  obeys o t r bs i e f = ap (λ p. obeyed m o bs (hearing m o p)) e ∙ ap (λ h. obeyed m o bs (in_role m h i)) f
 
   one : (o : Own X) (t : Target) (r s : Role) → m.hears o t ≡ Some r → m.hears o t ≡ Some s → r ≡ s
   one o t r s e f = cc
@@ -147,6 +150,7 @@ silent_by_own = record {
 accessory_laws : {S : Type 0} (k : AccessoryKind S) → Sound k → KindLaws (accessory_rules k)
 accessory_laws k sound = record {
   unheard_keeps = unheard (accessory_rules k);
+  heard_obeys = obeys (accessory_rules k);
   one_role = one (accessory_rules k);
   first_waits = λ o r bs i e f. accessory_first (k.after o.rec.state.shown i) (access_of i) o.rec.state.waiting (packed bs) o.vars (sound.apart _ i) e f;
   read_only = λ o r bs i a e h. accessory_read_only (k.after o.rec.state.shown i) (access_of i) o.rec.state.waiting (packed bs) a o.vars (sound.apart _ i) e h;
@@ -282,7 +286,7 @@ others_keep o r bs i e = either _ o.rec.state _ refl
 
 pub laws : Laws
 laws = record {
-  mobiles = record { unheard_keeps = unheard mobile_rules; one_role = one mobile_rules; first_waits = mobile_first; read_only = mobile_read_only };
+  mobiles = record { unheard_keeps = unheard mobile_rules; heard_obeys = obeys mobile_rules; one_role = one mobile_rules; first_waits = mobile_first; read_only = mobile_read_only };
   basics = accessory_laws basic_kind basic_sound;
   extendeds = accessory_laws extended_kind extended_sound;
   replies = replies_need_all;

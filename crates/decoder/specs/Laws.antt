@@ -1,5 +1,5 @@
 -- What the rules come to, in the words of the track.
-use Rattle.std.specs.Prelude.{◌≡◌, ℕ, ◌+◌, ◌-◌, ◌%◌, ◌<◌, ◌≤◌, Bool, true, false, cond, not, ◌&&◌, ◌⊎◌, List, length, Some, None, Option, ◌≢◌, nat_le, nat_lt, ◌==◌, slice_index_or}
+use Rattle.std.specs.Prelude.{◌≡◌, ℕ, ◌+◌, ◌-◌, ◌%◌, ◌<◌, ◌≤◌, Bool, true, false, cond, not, ◌&&◌, ◌⊎◌, List, length, Some, None, Ok, Option, ◌≢◌, nat_le, nat_lt, ◌==◌, slice_index_or}
 use Rattle.packet.specs.declared.instruction.FunctionGroup.{FunctionGroup}
 use Rattle.packet.specs.declared.instruction.FunctionGroup.TheVariants.{F0ToF4, F5ToF8, F9ToF12, F13ToF20, F21ToF28, F29ToF36, F37ToF44, F45ToF52, F53ToF60, F61ToF68}
 use Rattle.packet.specs.declared.instruction.Instruction.{Instruction}
@@ -7,7 +7,7 @@ use Rattle.packet.specs.declared.instruction.Instruction.TheVariants.{NoOperatio
 use Rattle.packet.specs.declared.target.Target.{Target}
 use Rattle.packet.specs.declared.target.Target.TheVariants as target
 use Rattle.packet.specs.Groups.{lowest_of, width_of}
-use Rattle.format.specs.Reading.{packet_read}
+use Rattle.format.specs.Reading.{packet_of, packet_read}
 use Rattle.state.specs.declared.step.Step.{Step}
 use Rattle.state.specs.declared.volatile.Reply.TheVariants.{Acknowledgment}
 use Rattle.state.specs.Bits.{bit_of, with_bit}
@@ -39,6 +39,8 @@ use Rattle.decoder.specs.Going.{SpeedsInOrder, SpeedActs}
 pub record KindLaws {X : Type 0} (m : Rules X) : Type 0 where
   -- a packet that it does not hear changes nothing
   pub unheard_keeps : (o : Own X) (bs : List ℕ) → hearing m o (packet_read bs) ≡ None → live m o (heard bs) ≡ o
+  -- one that it hears by some address it obeys in that role
+  pub heard_obeys : (o : Own X) (t : Target) (r : Role) (bs : List ℕ) (i : Instruction) → packet_read bs ≡ Ok (packet_of t i) → m.hears o t ≡ Some r → live m o (heard bs) ≡ m.obeys o r bs i
   -- it hears a packet in at most one role
   pub one_role : (o : Own X) (t : Target) (r s : Role) → m.hears o t ≡ Some r → m.hears o t ≡ Some s → r ≡ s
   -- a long-form write never changes a variable at its first packet
