@@ -45,8 +45,7 @@ fn fit_all<M: Memory>(
 }
 
 // Board, banks and memory stay apart here and in the portraits, as the board's calls take them: a struct of the three
-// would be taken
-// apart at each call.
+// would be taken apart at each call.
 
 /// Takes every block of a capture.
 fn take_all<M: Memory>(
