@@ -1,5 +1,5 @@
 -- How a mobile decoder goes, and the functions that are told. Assumes nothing.
-use Rattle.std.proofs.Common.{◌≡◌, ℕ, ◌+◌, ◌-◌, ◌*◌, ◌%◌, ◌≤◌, Bool, true, false, cond, not, ◌&&◌, eqb, List, length, get_or, Some, Option, None, subst, sym, refl, ap, ◌∙◌, ⊎_elim, arith, get_or-set_same}
+use Rattle.std.proofs.Common.{◌≡◌, ℕ, ◌+◌, ◌-◌, ◌*◌, ◌%◌, ◌≤◌, Bool, true, false, cond, not, ◌&&◌, eqb, List, length, get_or, Some, Option, None, subst, sym, refl, ap, ◌∙◌, ⊎_elim, arith, get_or-set_same, get_or-set_other}
 use Rattle.std.proofs.lemmas.Bool.{false≢true, eq-eqb, ne_eqb, cond-true, cond-false}
 use Rattle.std.proofs.lemmas.Bool.Decides.{nat_tests}
 use Rattle.packet.specs.declared.instruction.Instruction.TheVariants as instruction
@@ -19,7 +19,7 @@ use Rattle.decoder.specs.declared.records.Mobile.{Mobile}
 use Rattle.decoder.specs.declared.role.Role.{Role}
 use Rattle.decoder.specs.declared.role.Role.TheVariants as role
 use Rattle.decoder.specs.Hearing.{is_short, in_consist}
-use Rattle.decoder.specs.Mobiles.{mobile_changed, mobile_noted}
+use Rattle.decoder.specs.Mobiles.{directed, sped, with_functions, mobile_changed, mobile_noted}
 use Rattle.decoder.specs.Alone.{Own, variable, mobile_view, mobile_rules}
 use Rattle.decoder.specs.Going.{IsStep, SpeedsInOrder, TakesSpeed, GoesAsSent, SpeedActs}
 use Rattle.decoder.specs.Laws.{FunctionsTold}
@@ -61,6 +61,15 @@ module _ (s u : MobileState) (w : Option WaitingWrite) (reply : Option Reply) wh
   functions_then true e = refl
   functions_then false e = absurd (false≢true e)
 
+  -- whether or not it acts
+  functions_stay : (acts : Bool) → u.functions ≡ s.functions → (mobile_noted (cond acts u s) w reply).functions ≡ s.functions
+  functions_stay true e = e
+  functions_stay false e = refl
+
+  function_stays : (acts : Bool) (k : ℕ) → get_or u.functions.on k false ≡ get_or s.functions.on k false → get_or (mobile_noted (cond acts u s) w reply).functions.on k false ≡ get_or s.functions.on k false
+  function_stays true k e = e
+  function_stays false k e = refl
+
 module _ (o : Own Mobile) (bs : List ℕ) (forward : Bool) (code : ℕ) where
   in126 : (r : Role) → TakesSpeed o r → GoesAsSent (mobile_rules.obeys o r bs (instruction.Speed126 forward code)).rec.state forward (speed_at OneTwentySix code)
   in126 r h =
@@ -91,12 +100,24 @@ module _ (o : Own Mobile) (bs : List ℕ) (forward : Bool) (code : ℕ) where
       (told _ (functions_then o.rec.state (mobile_changed o.rec.state (mobile_view o.vars None) role.Everyone (instruction.Speed forward code)) None None true refl ∙ ap (λ (s : MobileState). s.functions) (short _ _)))
       (λ e. told _ (functions_then o.rec.state _ None None _ (not_in_consist o e) ∙ ap (λ (s : MobileState). s.functions) (short _ _)))
 
+  functions : (r : Role) (k : ℕ) → 1 ≤ k → get_or (mobile_rules.obeys o r bs (instruction.Speed forward code)).rec.state.functions.on k false ≡ get_or o.rec.state.functions.on k false
+  functions r k h = function_stays o.rec.state _ None None _ k (other (bit_of (variable o.vars 29) 1))
+    where
+      other : (c : Bool) → get_or (cond c (sped o.rec.state TwentyEight (directed (mobile_view o.vars None) r forward) code) (with_functions (sped o.rec.state Fourteen (directed (mobile_view o.vars None) r forward) code) (record { on = lit o.rec.state.functions.on code }))).functions.on k false ≡ get_or o.rec.state.functions.on k false
+      other true = refl
+      other false = get_or-set_other o.rec.state.functions.on 0 k (bit_of code 4) false (omega (arith, h))
+
+  functions28 : (r : Role) → bit_of (variable o.vars 29) 1 ≡ true → (mobile_rules.obeys o r bs (instruction.Speed forward code)).rec.state.functions ≡ o.rec.state.functions
+  functions28 r c = functions_stay o.rec.state _ None None _ (ap (λ (s : MobileState). s.functions) (cond-true _ _ _ c))
+
 pub speed_acts : SpeedActs
 speed_acts = record {
   in126 = λ o r bs forward code h. in126 o bs forward code r h;
   in28 = λ o r bs forward code h c. in28 o bs forward code r h c;
   in14 = λ o r bs forward code h c. in14 o bs forward code r h c;
   light = λ o r bs forward code l h c. light o bs forward code r l h c;
+  functions = λ o r bs forward code k h. functions o bs forward code r k h;
+  functions28 = λ o r bs forward code c. functions28 o bs forward code r c;
 }
 
 pub functions_told : FunctionsTold

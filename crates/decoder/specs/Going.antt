@@ -1,5 +1,5 @@
 -- How a mobile decoder goes, by the speed that is sent.
-use Rattle.std.specs.Prelude.{◌≡◌, ℕ, ◌+◌, ◌-◌, ◌*◌, ◌%◌, ◌≤◌, Bool, true, false, ◌⊎◌, List, length, Some}
+use Rattle.std.specs.Prelude.{◌≡◌, ℕ, ◌+◌, ◌-◌, ◌*◌, ◌%◌, ◌≤◌, Bool, true, false, ◌⊎◌, List, length, Some, slice_index_or}
 use Rattle.packet.specs.declared.instruction.Instruction.TheVariants as instruction
 use Rattle.state.specs.declared.scale.Scale.{Scale}
 use Rattle.state.specs.declared.scale.Scale.TheVariants.{Fourteen, TwentyEight, OneTwentySix}
@@ -38,9 +38,12 @@ pub record GoesAsSent (s : MobileState) (to : Bool) (at : Speed) : Type 0 where
   pub forward : s.forward ≡ to
   pub speed : s.speed ≡ at
 
--- bit 1 of variable 29 chooses among 28 and 14 steps, and in 14 FL is bit 4 of the code
+-- bit 1 of variable 29 chooses among 28 and 14 steps, and in 14 FL is bit 4 of the code. No other function changes, in
+-- whatever role the speed is heard, and in 28 steps none at all
 pub record SpeedActs : Type 0 where
   pub in126 : (o : Own Mobile) (r : Role) (bs : List ℕ) (forward : Bool) (code : ℕ) → TakesSpeed o r → GoesAsSent (mobile_rules.obeys o r bs (instruction.Speed126 forward code)).rec.state forward (speed_at OneTwentySix code)
   pub in28 : (o : Own Mobile) (r : Role) (bs : List ℕ) (forward : Bool) (code : ℕ) → TakesSpeed o r → bit_of (variable o.vars 29) 1 ≡ true → GoesAsSent (mobile_rules.obeys o r bs (instruction.Speed forward code)).rec.state forward (speed_at TwentyEight code)
   pub in14 : (o : Own Mobile) (r : Role) (bs : List ℕ) (forward : Bool) (code : ℕ) → TakesSpeed o r → bit_of (variable o.vars 29) 1 ≡ false → GoesAsSent (mobile_rules.obeys o r bs (instruction.Speed forward code)).rec.state forward (speed_at Fourteen code)
   pub light : (o : Own Mobile) (r : Role) (bs : List ℕ) (forward : Bool) (code : ℕ) → length o.rec.state.functions.on ≡ 69 → TakesSpeed o r → bit_of (variable o.vars 29) 1 ≡ false → function_at (mobile_rules.obeys o r bs (instruction.Speed forward code)).rec.state.functions.on 0 ≡ Some (bit_of code 4)
+  pub functions : (o : Own Mobile) (r : Role) (bs : List ℕ) (forward : Bool) (code k : ℕ) → 1 ≤ k → slice_index_or (mobile_rules.obeys o r bs (instruction.Speed forward code)).rec.state.functions.on k false ≡ slice_index_or o.rec.state.functions.on k false
+  pub functions28 : (o : Own Mobile) (r : Role) (bs : List ℕ) (forward : Bool) (code : ℕ) → bit_of (variable o.vars 29) 1 ≡ true → (mobile_rules.obeys o r bs (instruction.Speed forward code)).rec.state.functions ≡ o.rec.state.functions
