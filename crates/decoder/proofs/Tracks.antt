@@ -5,7 +5,7 @@ use Rattle.std.proofs.lemmas.Bool.{true≢false, false≢true, cases_lt}
 use Rattle.std.proofs.lemmas.Bool.Decides.{nat_tests}
 use Rattle.packet.specs.declared.instruction.FunctionGroup.TheVariants.{F0ToF4}
 use Rattle.packet.specs.declared.instruction.Instruction.{Instruction}
-use Rattle.packet.specs.declared.instruction.Instruction.TheVariants.{Reset, HardReset, Speed, Speed126, Functions, VerifyByte, WriteByte, VerifyBit, WriteBit}
+use Rattle.packet.specs.declared.instruction.Instruction.TheVariants.{Reset, HardReset, AdvancedAddressing, Consist, Speed, Speed126, Functions, AccelerationAdjustment, DecelerationAdjustment, VerifyByte, WriteByte, VerifyBit, WriteBit}
 use Rattle.packet.specs.declared.target.Target.{Target}
 use Rattle.packet.specs.Groups.{lowest_of, width_of}
 use Rattle.format.specs.Reading.{packet_of, packet_read}
@@ -33,13 +33,14 @@ use Rattle.decoder.proofs.Consists.{hard_resets, speed_in_consist, instructions_
 use Rattle.decoder.proofs.Gone.{speeds_in_order, speed_acts, functions_told}
 use Rattle.decoder.proofs.Grouped.{groups_name_each}
 use Rattle.decoder.proofs.Hearings.{hears_its_own, has_an_address, hears_its_kind, hears_all, hears_its_consist}
+use Rattle.decoder.proofs.Lawfuls.{same_cond}
 use Rattle.decoder.proofs.Same.{packets_wait}
 use Rattle.decoder.proofs.Showings.{others_keep as keeps_others, accessories_show}
 use Rattle.decoder.proofs.States.{states_switch_one, states_switch_together}
 use Rattle.decoder.proofs.Verified.{mobile_verifies, basic_verifies, extended_verifies, mobile_writes, basic_writes, extended_writes}
 use Rattle.decoder.proofs.Sounds.{Apart, Sound, basic_sound, extended_sound}
 use Rattle.decoder.specs.declared.effect.Accessed.{Accessed}
-use Rattle.decoder.specs.Laws.{KindLaws, SilentByOwnVariable, ReplyNeedsAll, ResetIsPowerUp, ByConsistOnlySpeed, GroupsSwitchTheirOwn, is_in_group, LightByGroupOne, OthersKeepFunctions, Laws}
+use Rattle.decoder.specs.Laws.{KindLaws, SilentByOwnVariable, ReplyNeedsAll, ResetIsPowerUp, ByConsistOnlySpeed, GroupsSwitchTheirOwn, is_in_group, LightByGroupOne, OthersKeepFunctions, touches_variables, OthersKeepVariables, Laws}
 
 module _ {X : Type 0} (m : Rules X) where
   unheard : (o : Own X) (bs : List ℕ) → hearing m o (packet_read bs) ≡ None → live m o (heard bs) ≡ o
@@ -284,6 +285,33 @@ others_keep o r bs (Speed forward code) e = absurd (true≢false e)
 others_keep o r bs (Functions group bits) e = absurd (true≢false e)
 others_keep o r bs i e = either _ o.rec.state _ refl
 
+-- what is no write leaves the variables, whether or not it acts
+no_write_keeps : (acts : Bool) (a : Option Access) (vars : List ℕ) → writes_by a ≡ false → applied (cond acts (access_effect (accessed a (named vars a))) None) vars ≡ vars
+no_write_keeps acts None vars e = same_cond acts vars
+no_write_keeps acts (Some a) vars e = go acts a.writes e
+  where
+    go : (c writes : Bool) → writes ≡ false → applied (cond c (cond writes (Some (effect.Put a.cv (result a.change (variable vars a.cv.number)))) None) None) vars ≡ vars
+    go true false e = refl
+    go true true e = absurd (true≢false e)
+    go false writes e = refl
+
+keep_variables : OthersKeepVariables
+keep_variables = record {
+  mobile = mobile;
+  basic = λ o r bs i e. no_write_keeps _ (access_of i) o.vars e;
+  extended = λ o r bs i e. no_write_keeps _ (access_of i) o.vars e;
+}
+  where
+    mobile : (o : Own Mobile) (r : Role) (bs : List ℕ) (i : Instruction) → touches_variables i ≡ false → (mobile_rules.obeys o r bs i).vars ≡ o.vars
+    mobile o r bs HardReset e = absurd (true≢false e)
+    mobile o r bs (AdvancedAddressing on) e = absurd (true≢false e)
+    mobile o r bs (Consist reversed address) e = absurd (true≢false e)
+    mobile o r bs (AccelerationAdjustment value) e = absurd (true≢false e)
+    mobile o r bs (DecelerationAdjustment value) e = absurd (true≢false e)
+    mobile o r bs (WriteByte cv value) e = absurd (true≢false e)
+    mobile o r bs (WriteBit cv bit value) e = absurd (true≢false e)
+    mobile o r bs i e = same_cond _ o.vars
+
 pub laws : Laws
 laws = record {
   mobiles = record { unheard_keeps = unheard mobile_rules; heard_obeys = obeys mobile_rules; one_role = one mobile_rules; first_waits = mobile_first; read_only = mobile_read_only };
@@ -324,4 +352,5 @@ laws = record {
   packets_wait = packets_wait;
   switches_act = switches_act;
   acts_answered = acts_answered;
+  others_keep_variables = keep_variables;
 }

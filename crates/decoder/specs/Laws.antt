@@ -231,6 +231,35 @@ pub record InstructionsPut : Type 0 where
   pub deceleration : (o : Own Mobile) (r : Role) (bs : List ℕ) (x : ℕ) → length o.vars ≡ 1024 → r ≢ role.Consist → Puts o (mobile_rules.obeys o r bs (DecelerationAdjustment x)) 24 x
   pub advanced : (o : Own Mobile) (r : Role) (bs : List ℕ) (on : Bool) → length o.vars ≡ 1024 → r ≢ role.Consist → Puts o (mobile_rules.obeys o r bs (AdvancedAddressing on)) 29 (with_bit (variable o.vars 29) 5 on)
 
+-- the instructions that may change variables of a mobile decoder: a hard reset, those with a variable of their own, and a
+-- write
+abbrev pub touches_variables : Instruction → Bool
+touches_variables NoOperation = false
+touches_variables Reset = false
+touches_variables HardReset = true
+touches_variables (AdvancedAddressing on) = true
+touches_variables AcknowledgmentRequest = false
+touches_variables (Consist reversed address) = true
+touches_variables (Speed forward code) = false
+touches_variables (Speed126 forward code) = false
+touches_variables (Functions group bits) = false
+touches_variables (BinaryStateShort on number) = false
+touches_variables (BinaryStateLong on number) = false
+touches_variables (AccelerationAdjustment value) = true
+touches_variables (DecelerationAdjustment value) = true
+touches_variables (VerifyByte cv value) = false
+touches_variables (WriteByte cv value) = true
+touches_variables (VerifyBit cv bit value) = false
+touches_variables (WriteBit cv bit value) = true
+touches_variables (Output number on) = false
+touches_variables (Aspect number) = false
+
+-- no other changes one, and of an accessory decoder none but a write does
+pub record OthersKeepVariables : Type 0 where
+  pub mobile : (o : Own Mobile) (r : Role) (bs : List ℕ) (i : Instruction) → touches_variables i ≡ false → (mobile_rules.obeys o r bs i).vars ≡ o.vars
+  pub basic : (o : Own Basic) (r : Role) (bs : List ℕ) (i : Instruction) → is_write i ≡ false → (basic_rules.obeys o r bs i).vars ≡ o.vars
+  pub extended : (o : Own Extended) (r : Role) (bs : List ℕ) (i : Instruction) → is_write i ≡ false → (extended_rules.obeys o r bs i).vars ≡ o.vars
+
 -- no instruction but speed and a reset changes the speed or the direction, and none but a binary state and a reset the
 -- binary states
 pub record OthersKeep : Type 0 where
@@ -330,3 +359,4 @@ pub record Laws : Type 0 where
   pub packets_wait : PacketsWait
   pub switches_act : SwitchesAct
   pub acts_answered : ActsAnswered
+  pub others_keep_variables : OthersKeepVariables
