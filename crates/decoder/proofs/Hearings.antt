@@ -1,9 +1,10 @@
 -- Who hears what. Assumes nothing.
-use Rattle.std.proofs.Common.{◌≡◌, ℕ, ◌+◌, ◌/◌, ◌%◌, Bool, true, cond, eqb, ◌≢◌, Some, None, Option, sym, refl, ap, ◌∙◌, arith}
+use Rattle.std.proofs.Common.{◌≡◌, ℕ, ◌+◌, ◌/◌, ◌%◌, Bool, true, false, cond, eqb, ◌≢◌, Some, None, Option, sym, refl, ap, ◌∙◌, arith}
 use Rattle.std.proofs.lemmas.Bool.{cond-true, cond-false, eq-eqb, ne_eqb}
 use Rattle.std.proofs.lemmas.Bool.Decides.{nat_tests}
 use Rattle.packet.specs.declared.target.Target.{Target}
 use Rattle.packet.specs.declared.target.Target.TheVariants as target
+use Rattle.decoder.specs.declared.records.Mobile.{Mobile}
 use Rattle.decoder.specs.declared.role.Address.{Address}
 use Rattle.decoder.specs.declared.role.Address.TheVariants as address
 use Rattle.decoder.specs.declared.role.Role.{Role}
@@ -12,7 +13,7 @@ use Rattle.decoder.specs.Fresh.{Basic, Extended}
 use Rattle.decoder.specs.Alone.{Own, variable, mobile_rules, basic_rules, extended_rules, mobile_view}
 use Rattle.decoder.specs.Fitted.{blank, mobile_defaults, mobile_variables, mobile_fitted}
 use Rattle.decoder.specs.Hearing.{own_address, is_short, is_long, is_consist, mobile_role, by_accessory}
-use Rattle.decoder.specs.Laws.{HearsItsOwn, HasAnAddress, HearsItsKind, HearsAll, HearsItsConsist, is_mobile_address, target_at}
+use Rattle.decoder.specs.Laws.{HearsItsOwn, HasAnAddress, HearsItsKind, HearsAll, HearsItsConsist, HearsAsAddressed, is_mobile_address, target_at}
 
 own_short : (a : ℕ) → is_mobile_address (address.Short a) ≡ true → own_address 2 a 192 0 ≡ Some (address.Short a)
 own_short a h = cond-true _ _ _ h
@@ -81,3 +82,41 @@ consist_is c a mine h = grind (arith, nat_tests)
 
 pub hears_its_consist : HearsItsConsist
 hears_its_consist o a h = consist_is (variable o.vars 19) a _ h
+
+-- a packet that is heard as its own is to the address that stands
+own_short_is : (a : ℕ) (other : Bool) (v : Option Address) → cond (is_short a v) (Some role.Own) (cond other (Some role.Consist) None) ≡ Some role.Own → v ≡ Some (address.Short a)
+own_short_is a true None h = cc
+own_short_is a false None h = cc
+own_short_is a true (Some (address.Long b)) h = cc
+own_short_is a false (Some (address.Long b)) h = cc
+own_short_is a other (Some (address.Short b)) h = ap (λ n. Some (address.Short n)) (grind (arith, nat_tests))
+
+own_long_is : (a : ℕ) (v : Option Address) → cond (is_long a v) (Some role.Own) None ≡ Some role.Own → v ≡ Some (address.Long a)
+own_long_is a None h = cc
+own_long_is a (Some (address.Short b)) h = cc
+own_long_is a (Some (address.Long b)) h = ap (λ n. Some (address.Long n)) (grind (arith, nat_tests))
+
+-- and the address of the consist is another
+not_short : (a : ℕ) (v : Option Address) → v ≢ Some (address.Short a) → is_short a v ≡ false
+not_short a None ne = refl
+not_short a (Some (address.Short b)) ne = ne_eqb a b (λ e. ne (ap (λ n. Some (address.Short n)) (sym e)))
+not_short a (Some (address.Long b)) ne = refl
+
+consist_at : (c a : ℕ) → cond (eqb (c % 128) 0) None (Some (c % 128)) ≡ Some a → is_consist a c ≡ true
+consist_at c a h = grind (arith, nat_tests)
+
+pub hears_as_addressed : HearsAsAddressed
+hears_as_addressed = record {
+  own = own;
+  at_own = at_own;
+  consist = λ o a h ne. cond-false _ _ _ (not_short a (mobile_view o.vars None).own ne) ∙ cond-true _ _ _ (consist_at (variable o.vars 19) a h);
+}
+  where
+    own : (o : Own Mobile) (t : Target) → mobile_rules.hears o t ≡ Some role.Own → (a : Address) × ((mobile_view o.vars None).own ≡ Some a) × (t ≡ target_at a)
+    own o (target.Short a) h = (address.Short a, own_short_is a _ _ h, refl)
+    own o (target.Long a) h = (address.Long a, own_long_is a _ h, refl)
+    own o t h = cc
+
+    at_own : (o : Own Mobile) (a : Address) → (mobile_view o.vars None).own ≡ Some a → mobile_rules.hears o (target_at a) ≡ Some role.Own
+    at_own o (address.Short a) e = cond-true _ _ _ (by_short a _ e)
+    at_own o (address.Long a) e = cond-true _ _ _ (by_long a _ e)

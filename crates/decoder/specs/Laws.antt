@@ -281,6 +281,13 @@ pub record AccessoriesShow : Type 0 where
 abbrev pub HearsItsConsist : Type 0
 HearsItsConsist = (o : Own Mobile) (a : ℕ) → mobile_rules.hears o (target.Short a) ≡ Some role.Consist → consist_of (mobile_view o.vars None) ≡ Some a
 
+-- and the other way: a packet that a mobile decoder hears as its own is to the address that its variables hold, and each
+-- packet to that it hears so; a packet to the address of its consist it hears as its consist's, unless that is its own
+pub record HearsAsAddressed : Type 0 where
+  pub own : (o : Own Mobile) (t : Target) → mobile_rules.hears o t ≡ Some role.Own → (a : Address) × ((mobile_view o.vars None).own ≡ Some a) × (t ≡ target_at a)
+  pub at_own : (o : Own Mobile) (a : Address) → (mobile_view o.vars None).own ≡ Some a → mobile_rules.hears o (target_at a) ≡ Some role.Own
+  pub consist : (o : Own Mobile) (a : ℕ) → consist_of (mobile_view o.vars None) ≡ Some a → (mobile_view o.vars None).own ≢ Some (address.Short a) → mobile_rules.hears o (target.Short a) ≡ Some role.Consist
+
 -- by the own address or to all a group of functions switches those, and a binary state by its number that one
 pub record SwitchesAct : Type 0 where
   pub group : (o : Own Mobile) (r : Role) (bs : List ℕ) (g : FunctionGroup) (bits : ℕ) → r ≢ role.Consist → (mobile_rules.obeys o r bs (Functions g bits)).rec.state.functions.on ≡ switched o.rec.state.functions.on g bits (bit_of (variable o.vars 29) 1)
@@ -360,3 +367,4 @@ pub record Laws : Type 0 where
   pub switches_act : SwitchesAct
   pub acts_answered : ActsAnswered
   pub others_keep_variables : OthersKeepVariables
+  pub as_addressed : HearsAsAddressed
