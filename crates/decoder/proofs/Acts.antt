@@ -4,7 +4,7 @@ use Rattle.std.proofs.lemmas.Bool.{false≢true, cond-false, ne_eqb}
 use Rattle.std.proofs.lemmas.Bool.Decides.{nat_tests}
 use Rattle.packet.specs.declared.instruction.FunctionGroup.{FunctionGroup}
 use Rattle.packet.specs.declared.instruction.Instruction.{Instruction}
-use Rattle.packet.specs.declared.instruction.Instruction.TheVariants.{Reset, HardReset, AdvancedAddressing, AcknowledgmentRequest, Consist, Functions, BinaryStateShort, BinaryStateLong, AccelerationAdjustment, DecelerationAdjustment, VerifyByte, WriteByte, VerifyBit, WriteBit, Output, Aspect}
+use Rattle.packet.specs.declared.instruction.Instruction.TheVariants.{Reset, HardReset, AdvancedAddressing, AcknowledgmentRequest, Consist, Speed, Speed126, Functions, BinaryStateShort, BinaryStateLong, AccelerationAdjustment, DecelerationAdjustment, VerifyByte, WriteByte, VerifyBit, WriteBit, Output, Aspect}
 use Rattle.state.specs.declared.volatile.Reply.TheVariants.{Acknowledgment}
 use Rattle.state.specs.Bits.{bit_of}
 use Rattle.state.specs.Groups.{switched}
@@ -14,8 +14,11 @@ use Rattle.decoder.specs.declared.role.Role.{Role}
 use Rattle.decoder.specs.declared.role.Role.TheVariants as role
 use Rattle.decoder.specs.Accesses.{access_of}
 use Rattle.decoder.specs.Fresh.{Basic, Extended}
-use Rattle.decoder.specs.Alone.{Own, variable, mobile_rules, basic_rules, extended_rules}
+use Rattle.decoder.specs.Mobiles.{is_speed, speed_acts}
+use Rattle.decoder.specs.Alone.{Own, variable, mobile_view, mobile_rules, basic_rules, extended_rules}
+use Rattle.decoder.specs.Going.{TakesSpeed}
 use Rattle.decoder.specs.LongForms.{RepliesEnabled}
+use Rattle.decoder.proofs.Gone.{speed_is_taken, not_in_consist}
 use Rattle.decoder.specs.Laws.{SwitchesAct, always_acts, ActsAnswered}
 
 one_of : {A : Type 0} (n : ℕ) (x y : A) → 1 ≤ n → cond (eqb n 0) x y ≡ y
@@ -49,6 +52,9 @@ untold : (c acts : Bool) → acts ≡ false → cond (c && acts) (Some Acknowled
 untold true acts e = ap (λ a. cond a (Some Acknowledgment) None) e
 untold false acts e = refl
 
+taken : (o : Own Mobile) → TakesSpeed o role.Own → speed_acts (mobile_view o.vars None) role.Own ≡ true
+taken o h = speed_is_taken o role.Own h (λ r. speed_acts (mobile_view o.vars None) r ≡ true) refl (not_in_consist o)
+
 always : (o : Own Mobile) (bs : List ℕ) (i : Instruction) → RepliesEnabled mobile_rules o → always_acts i ≡ true → (mobile_rules.obeys o role.Own bs i).rec.state.reply ≡ Some Acknowledgment
 always o bs Reset c e = told _ true c refl
 always o bs HardReset c e = told _ true c refl
@@ -60,6 +66,11 @@ always o bs (BinaryStateShort on number) c e = told _ true c refl
 always o bs (AccelerationAdjustment value) c e = told _ true c refl
 always o bs (DecelerationAdjustment value) c e = told _ true c refl
 always o bs i c e = absurd (false≢true e)
+
+speed : (o : Own Mobile) (bs : List ℕ) (i : Instruction) → RepliesEnabled mobile_rules o → TakesSpeed o role.Own → is_speed i ≡ true → (mobile_rules.obeys o role.Own bs i).rec.state.reply ≡ Some Acknowledgment
+speed o bs (Speed forward code) c h e = told _ _ c (taken o h)
+speed o bs (Speed126 forward code) c h e = told _ _ c (taken o h)
+speed o bs i c h e = absurd (false≢true e)
 
 basic_others : (o : Own Basic) (bs : List ℕ) (i : Instruction) → access_of i ≡ None → ((n : ℕ) (on : Bool) → i ≢ Output n on) → (basic_rules.obeys o role.Own bs i).rec.state.reply ≡ None
 basic_others o bs (Output n on) e h = absurd (h n on refl)
@@ -86,6 +97,7 @@ above n h = grind (arith, nat_tests)
 pub acts_answered : ActsAnswered
 acts_answered = record {
   always = always;
+  speed = speed;
   state = λ o bs n on c h. told _ _ c (kept_number n h);
   no_state = λ o bs n on h. untold _ _ (above n h);
   output = λ o bs n on c. told _ true c refl;

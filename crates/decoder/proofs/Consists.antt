@@ -1,14 +1,17 @@
 -- What a hard reset leaves, and speed in a consist. Assumes nothing.
-use Rattle.std.proofs.Common.{◌≡◌, ℕ, ◌+◌, ◌-◌, ◌%◌, ◌≤◌, Bool, true, false, cond, not, ◌&&◌, eqb, ◌≢◌, List, length, get_or, set, Some, None, Option, refl, ◌∙◌, arith, length-set, get_or-set_same, get_or-set_other}
-use Rattle.std.proofs.lemmas.Bool.{false≢true}
+use Rattle.std.proofs.Common.{◌≡◌, ℕ, ◌+◌, ◌-◌, ◌%◌, ◌≤◌, Bool, true, false, cond, not, ◌&&◌, eqb, ◌≢◌, List, length, get_or, set, Some, None, Option, refl, ap, ◌∙◌, arith, length-set, get_or-set_same, get_or-set_other}
+use Rattle.std.proofs.lemmas.Bool.{true≢false, false≢true}
 use Rattle.std.proofs.lemmas.Bool.Decides.{nat_tests}
 use Rattle.packet.specs.declared.instruction.Instruction.{Instruction}
 use Rattle.packet.specs.declared.instruction.Instruction.TheVariants.{Speed, Speed126, AdvancedAddressing, Consist, AccelerationAdjustment, DecelerationAdjustment}
 use Rattle.packet.specs.declared.target.Target.TheVariants as target
 use Rattle.state.specs.declared.scale.Scale.TheVariants.{Fourteen, TwentyEight}
 use Rattle.state.specs.declared.volatile.MobileState.{MobileState}
-use Rattle.state.specs.Bits.{with_bit}
-use Rattle.state.specs.Groups.{lit}
+use Rattle.state.specs.declared.volatile.Reply.{Reply}
+use Rattle.state.specs.declared.waiting.WaitingWrite.{WaitingWrite}
+use Rattle.state.specs.Bits.{bit_of, with_bit}
+use Rattle.state.specs.Groups.{function_at, lit}
+use Rattle.state.specs.Speeds.{speed_at}
 use Rattle.state.specs.Starting.{mobile_start}
 use Rattle.decoder.specs.declared.records.Mobile.{Mobile}
 use Rattle.decoder.specs.declared.role.Address.{Address}
@@ -17,6 +20,7 @@ use Rattle.decoder.specs.declared.role.Role.TheVariants as role
 use Rattle.decoder.specs.Hearing.{is_short, is_consist}
 use Rattle.decoder.specs.Mobiles.{is_speed, sped, with_functions, mobile_noted}
 use Rattle.decoder.specs.Alone.{Own, own, variable, mobile_view, mobile_rules}
+use Rattle.decoder.specs.Going.{GoesAsSent}
 use Rattle.decoder.specs.Laws.{HardResetLeaves, HardResets, SpeedInConsist, Puts, InstructionsPut}
 
 module _ (vars : List ℕ) (l : length vars ≡ 1024) where
@@ -81,15 +85,30 @@ ignored o a bs (Speed forward code) h e = let c = in_it a (variable o.vars 19) (
 ignored o a bs (Speed126 forward code) h e = let c = in_it a (variable o.vars 19) (mobile_view o.vars None).own h in grind (arith, nat_tests)
 ignored o a bs i h e = absurd (false≢true e)
 
-short_forward : (s : MobileState) (c forward : Bool) (code : ℕ) → (cond c (sped s TwentyEight forward code) (with_functions (sped s Fourteen forward code) (record { on = lit s.functions.on code }))).forward ≡ forward
-short_forward s true forward code = refl
-short_forward s false forward code = refl
+-- a speed in 28 or in 14 steps
+module _ (s : MobileState) (forward : Bool) (code : ℕ) (w : Option WaitingWrite) (reply : Option Reply) where
+  abbrev short : Bool → MobileState
+  short c = mobile_noted (cond c (sped s TwentyEight forward code) (with_functions (sped s Fourteen forward code) (record { on = lit s.functions.on code }))) w reply
+
+  goes28 : (c : Bool) → c ≡ true → GoesAsSent (short c) forward (speed_at TwentyEight code)
+  goes28 true e = record { forward = refl; speed = refl }
+  goes28 false e = absurd (false≢true e)
+
+  goes14 : (c : Bool) → c ≡ false → GoesAsSent (short c) forward (speed_at Fourteen code)
+  goes14 false e = record { forward = refl; speed = refl }
+  goes14 true e = absurd (true≢false e)
+
+  lights : (c : Bool) → length s.functions.on ≡ 69 → c ≡ false → function_at (short c).functions.on 0 ≡ Some (bit_of code 4)
+  lights false l e = ap Some (get_or-set_same s.functions.on 0 (bit_of code 4) false (omega (arith, l)))
+  lights true l e = absurd (true≢false e)
 
 pub speed_in_consist : SpeedInConsist
 speed_in_consist = record {
   ignored = ignored;
-  turned = λ o bs forward code. short_forward o.rec.state _ _ code;
-  turned126 = λ o bs forward code. refl;
+  in126 = λ o bs forward code. record { forward = refl; speed = refl };
+  in28 = λ o bs forward code c. goes28 o.rec.state _ code _ _ _ c;
+  in14 = λ o bs forward code c. goes14 o.rec.state _ code _ _ _ c;
+  light = λ o bs forward code l c. lights o.rec.state _ code None None _ l c;
 }
 
 -- one variable of a decoder is put

@@ -21,7 +21,7 @@ use Rattle.decoder.specs.declared.role.Role.TheVariants as role
 use Rattle.decoder.specs.Hearing.{is_short, in_consist}
 use Rattle.decoder.specs.Mobiles.{directed, sped, with_functions, mobile_changed, mobile_noted}
 use Rattle.decoder.specs.Alone.{Own, variable, mobile_view, mobile_rules}
-use Rattle.decoder.specs.Going.{IsStep, SpeedsInOrder, TakesSpeed, GoesAsSent, SpeedActs}
+use Rattle.decoder.specs.Going.{IsStep, SpeedsInOrder, GoesAlone, TakesSpeed, GoesAsSent, SpeedActs}
 use Rattle.decoder.specs.Laws.{FunctionsTold}
 
 -- a code that is above 1 is that of its step
@@ -46,11 +46,19 @@ speeds_in_order = record {
 }
 
 -- speed acts by this role
-speed_is_taken : (o : Own Mobile) (r : Role) → TakesSpeed o r → (p : Role → Type 0) → p role.Everyone → (variable o.vars 19 % 128 ≡ 0 → p role.Own) → p r
+pub speed_is_taken : (o : Own Mobile) (r : Role) → TakesSpeed o r → (p : Role → Type 0) → p role.Everyone → (GoesAlone o → p role.Own) → p r
 speed_is_taken o r h p x y = ⊎_elim (λ e. subst p (sym e) x) (λ e. subst p (sym e.0) (y e.1)) h
 
-not_in_consist : (o : Own Mobile) → variable o.vars 19 % 128 ≡ 0 → not (in_consist (mobile_view o.vars None)) ≡ true
-not_in_consist o e = ap (λ b. not (not b && not (is_short (variable o.vars 19 % 128) (mobile_view o.vars None).own))) (eq-eqb (variable o.vars 19 % 128) 0 e)
+pub not_in_consist : (o : Own Mobile) → GoesAlone o → not (in_consist (mobile_view o.vars None)) ≡ true
+not_in_consist o h =
+    ⊎_elim
+    (λ e. ap (λ b. not (not b && not (is_short (variable o.vars 19 % 128) (mobile_view o.vars None).own))) (eq-eqb (variable o.vars 19 % 128) 0 e))
+    (λ e. its_own (eqb (variable o.vars 19 % 128) 0) _ (ap (is_short (variable o.vars 19 % 128)) e ∙ eq-eqb (variable o.vars 19 % 128) _ refl))
+    h
+  where
+    its_own : (none mine : Bool) → mine ≡ true → not (not none && not mine) ≡ true
+    its_own true mine e = refl
+    its_own false mine e = ap (λ b. not (not b)) e
 
 module _ (s u : MobileState) (w : Option WaitingWrite) (reply : Option Reply) where
   as_sent : (acts : Bool) {to : Bool} {at : Speed} → acts ≡ true → u.forward ≡ to → u.speed ≡ at → GoesAsSent (mobile_noted (cond acts u s) w reply) to at

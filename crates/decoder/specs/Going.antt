@@ -1,5 +1,5 @@
 -- How a mobile decoder goes, by the speed that is sent.
-use Rattle.std.specs.Prelude.{◌≡◌, ℕ, ◌+◌, ◌-◌, ◌*◌, ◌%◌, ◌≤◌, Bool, true, false, ◌⊎◌, List, length, Some, slice_index_or}
+use Rattle.std.specs.Prelude.{◌≡◌, ℕ, ◌+◌, ◌-◌, ◌*◌, ◌%◌, ◌≤◌, Bool, true, false, ◌⊎◌, List, length, Some, None, slice_index_or}
 use Rattle.packet.specs.declared.instruction.Instruction.TheVariants as instruction
 use Rattle.state.specs.declared.scale.Scale.{Scale}
 use Rattle.state.specs.declared.scale.Scale.TheVariants.{Fourteen, TwentyEight, OneTwentySix}
@@ -11,9 +11,10 @@ use Rattle.state.specs.Bits.{bit_of}
 use Rattle.state.specs.Groups.{function_at}
 use Rattle.state.specs.Speeds.{speed_at}
 use Rattle.decoder.specs.declared.records.Mobile.{Mobile}
+use Rattle.decoder.specs.declared.role.Address.TheVariants as address
 use Rattle.decoder.specs.declared.role.Role.{Role}
 use Rattle.decoder.specs.declared.role.Role.TheVariants as role
-use Rattle.decoder.specs.Alone.{Own, variable, mobile_rules}
+use Rattle.decoder.specs.Alone.{Own, variable, mobile_view, mobile_rules}
 
 -- a speed is step n of a scale
 abbrev pub IsStep : Speed → Scale → ℕ → Type 0
@@ -30,9 +31,13 @@ pub record SpeedsInOrder : Type 0 where
   pub halt126 : speed_at OneTwentySix 1 ≡ EmergencyStop
   pub one_twenty_six : (n : ℕ) → 1 ≤ n → n ≤ 126 → IsStep (speed_at OneTwentySix (n + 1)) OneTwentySix n
 
--- speed acts as it was sent where it is sent to all, or to the own address of a decoder that is in no consist
+-- a decoder is in no consist, or in that whose address is its own short one
+abbrev pub GoesAlone : Own Mobile → Type 0
+GoesAlone o = (variable o.vars 19 % 128 ≡ 0) ⊎ ((mobile_view o.vars None).own ≡ Some (address.Short (variable o.vars 19 % 128)))
+
+-- speed acts as it was sent where it is sent to all, or to the own address of a decoder that goes alone
 abbrev pub TakesSpeed : Own Mobile → Role → Type 0
-TakesSpeed o r = (r ≡ role.Everyone) ⊎ ((r ≡ role.Own) × (variable o.vars 19 % 128 ≡ 0))
+TakesSpeed o r = (r ≡ role.Everyone) ⊎ ((r ≡ role.Own) × GoesAlone o)
 
 pub record GoesAsSent (s : MobileState) (to : Bool) (at : Speed) : Type 0 where
   pub forward : s.forward ≡ to

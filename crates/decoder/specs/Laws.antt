@@ -8,6 +8,7 @@ use Rattle.packet.specs.declared.target.Target.{Target}
 use Rattle.packet.specs.declared.target.Target.TheVariants as target
 use Rattle.packet.specs.Groups.{lowest_of, width_of}
 use Rattle.format.specs.Reading.{packet_of, packet_read}
+use Rattle.state.specs.declared.scale.Scale.TheVariants.{Fourteen, TwentyEight, OneTwentySix}
 use Rattle.state.specs.declared.step.Step.{Step}
 use Rattle.state.specs.declared.volatile.Reply.TheVariants.{Acknowledgment}
 use Rattle.state.specs.Bits.{bit_of, with_bit}
@@ -15,6 +16,7 @@ use Rattle.state.specs.Groups.{switched, function_at}
 use Rattle.state.specs.Kept.{kept_after, state_at}
 use Rattle.state.specs.Packing.{packed, matches}
 use Rattle.state.specs.Scales.{top}
+use Rattle.state.specs.Speeds.{speed_at}
 use Rattle.state.specs.Starting.{mobile_start}
 use Rattle.decoder.specs.declared.records.Mobile.{Mobile}
 use Rattle.decoder.specs.declared.role.Address.{Address}
@@ -33,7 +35,7 @@ use Rattle.decoder.specs.Alone.{Own, Rules, own, variable, hearing, live, mobile
 use Rattle.decoder.specs.Alone.Event.{heard}
 use Rattle.decoder.specs.LongForms.{RepliesEnabled, PacketsWait, VerifiesTell, WritesTake}
 use Rattle.decoder.specs.Beginnings.{PowersUp, Fits}
-use Rattle.decoder.specs.Going.{SpeedsInOrder, SpeedActs}
+use Rattle.decoder.specs.Going.{SpeedsInOrder, TakesSpeed, GoesAsSent, SpeedActs}
 
 -- of a kind of decoder
 pub record KindLaws {X : Type 0} (m : Rules X) : Type 0 where
@@ -79,12 +81,18 @@ pub record HardResetLeaves (o after : Own Mobile) : Type 0 where
 abbrev pub HardResets : Type 0
 HardResets = (o : Own Mobile) (r : Role) (bs : List ℕ) → length o.vars ≡ 1024 → (r ≢ role.Consist) → HardResetLeaves o (mobile_rules.obeys o r bs HardReset)
 
+-- the direction of a speed by the consist address: turned by bit 7 of variable 19
+abbrev pub as_turned : Own Mobile → Bool → Bool
+as_turned o forward = cond (bit_of (variable o.vars 19) 7) (not forward) forward
+
 -- a decoder that hears some address as that of its consist ignores speed to its own, and nothing changes but that a wait
--- ends and the reply is none; speed by the consist address is turned by bit 7 of variable 19
+-- ends and the reply is none; speed by the consist address acts, turned, in the steps that bit 1 of variable 29 chooses
 pub record SpeedInConsist : Type 0 where
   pub ignored : (o : Own Mobile) (a : ℕ) (bs : List ℕ) (i : Instruction) → mobile_rules.hears o (target.Short a) ≡ Some role.Consist → is_speed i ≡ true → mobile_rules.obeys o role.Own bs i ≡ own (record { state = mobile_noted o.rec.state None None }) o.vars
-  pub turned : (o : Own Mobile) (bs : List ℕ) (forward : Bool) (code : ℕ) → (mobile_rules.obeys o role.Consist bs (Speed forward code)).rec.state.forward ≡ cond (bit_of (variable o.vars 19) 7) (not forward) forward
-  pub turned126 : (o : Own Mobile) (bs : List ℕ) (forward : Bool) (code : ℕ) → (mobile_rules.obeys o role.Consist bs (Speed126 forward code)).rec.state.forward ≡ cond (bit_of (variable o.vars 19) 7) (not forward) forward
+  pub in126 : (o : Own Mobile) (bs : List ℕ) (forward : Bool) (code : ℕ) → GoesAsSent (mobile_rules.obeys o role.Consist bs (Speed126 forward code)).rec.state (as_turned o forward) (speed_at OneTwentySix code)
+  pub in28 : (o : Own Mobile) (bs : List ℕ) (forward : Bool) (code : ℕ) → bit_of (variable o.vars 29) 1 ≡ true → GoesAsSent (mobile_rules.obeys o role.Consist bs (Speed forward code)).rec.state (as_turned o forward) (speed_at TwentyEight code)
+  pub in14 : (o : Own Mobile) (bs : List ℕ) (forward : Bool) (code : ℕ) → bit_of (variable o.vars 29) 1 ≡ false → GoesAsSent (mobile_rules.obeys o role.Consist bs (Speed forward code)).rec.state (as_turned o forward) (speed_at Fourteen code)
+  pub light : (o : Own Mobile) (bs : List ℕ) (forward : Bool) (code : ℕ) → length o.rec.state.functions.on ≡ 69 → bit_of (variable o.vars 29) 1 ≡ false → function_at (mobile_rules.obeys o role.Consist bs (Speed forward code)).rec.state.functions.on 0 ≡ Some (bit_of code 4)
 
 -- by the consist address nothing but speed changes, and with it FL in 14 steps
 pub record OnlySpeed (o after : Own Mobile) (i : Instruction) : Type 0 where
@@ -316,10 +324,11 @@ always_acts (WriteBit cv bit value) = false
 always_acts (Output number on) = false
 always_acts (Aspect number) = false
 
--- while replies are enabled, these are acknowledged, and so are a binary state that is kept, an output and an aspect; a state
--- above those is not, nor what is for another kind
+-- while replies are enabled, these are acknowledged, and so are speed that acts, a binary state that is kept, an output and
+-- an aspect; a state above those is not, nor, by an accessory decoder, what is for another kind
 pub record ActsAnswered : Type 0 where
   pub always : (o : Own Mobile) (bs : List ℕ) (i : Instruction) → RepliesEnabled mobile_rules o → always_acts i ≡ true → (mobile_rules.obeys o role.Own bs i).rec.state.reply ≡ Some Acknowledgment
+  pub speed : (o : Own Mobile) (bs : List ℕ) (i : Instruction) → RepliesEnabled mobile_rules o → TakesSpeed o role.Own → is_speed i ≡ true → (mobile_rules.obeys o role.Own bs i).rec.state.reply ≡ Some Acknowledgment
   pub state : (o : Own Mobile) (bs : List ℕ) (n : ℕ) (on : Bool) → RepliesEnabled mobile_rules o → n ≤ 2047 → (mobile_rules.obeys o role.Own bs (BinaryStateLong on n)).rec.state.reply ≡ Some Acknowledgment
   pub no_state : (o : Own Mobile) (bs : List ℕ) (n : ℕ) (on : Bool) → 2048 ≤ n → (mobile_rules.obeys o role.Own bs (BinaryStateLong on n)).rec.state.reply ≡ None
   pub output : (o : Own Basic) (bs : List ℕ) (n : ℕ) (on : Bool) → RepliesEnabled basic_rules o → (basic_rules.obeys o role.Own bs (Output n on)).rec.state.reply ≡ Some Acknowledgment
