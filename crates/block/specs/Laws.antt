@@ -30,7 +30,7 @@ HandsOutEach = (b : List ℕ) (n : ℕ) → is_block_length (length b) ≡ true 
 abbrev pub CountsEach : Type 0
 CountsEach = (b : List ℕ) (s : Survey) → surveyed b ≡ Ok s → (s.packets ≡ length (packets_of b)) × (s.packets + s.power_ups ≡ length (carried (reading b)))
 
--- a block of no bytes or of more than 512 is refused by each call, and any other is surveyed
+-- a block of no bytes or of more than 512 is refused by a walk, a handing out and a survey, and any other is surveyed
 pub record LengthsRefused (b : List ℕ) : Type 0 where
   pub checked : length_checked (length b) ≡ Err (fault_at BlockLength 0)
   pub handed : (n : ℕ) → handed_out b n ≡ Err (fault_at BlockLength 0)

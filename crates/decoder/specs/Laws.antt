@@ -218,7 +218,8 @@ pub record FunctionsTold : Type 0 where
   pub told : (fs : List Bool) (n : ℕ) → n ≤ 68 → function_at fs n ≡ Some (slice_index_or fs n false)
   pub beyond : (fs : List Bool) (n : ℕ) → 69 ≤ n → function_at fs n ≡ None
 
--- every decoder hears what is sent to all of its kind; an accessory decoder hears nothing but that and its own address
+-- every decoder hears what is sent to all of its kind, accessory decoders that are not at the broadcast address themselves:
+-- these hear it as their own. An accessory decoder hears nothing but that and its own address
 pub record HearsAll : Type 0 where
   pub mobile : (o : Own Mobile) → mobile_rules.hears o target.Broadcast ≡ Some role.Everyone
   pub basic : (o : Own Basic) → o.rec.address ≢ 511 → basic_rules.hears o (target.Basic 511) ≡ Some role.Everyone

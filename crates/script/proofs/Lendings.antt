@@ -51,4 +51,6 @@ lendings_answered = record {
   set = answers_lent _;
   byte = answers_lent _;
   bit = answers_lent _;
+  holds = answers_lent _;
+  any = answers_lent _;
 }
