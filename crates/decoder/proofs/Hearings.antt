@@ -12,8 +12,8 @@ use Rattle.decoder.specs.declared.role.Role.TheVariants as role
 use Rattle.decoder.specs.Fresh.{Basic, Extended}
 use Rattle.decoder.specs.Alone.{Own, variable, mobile_rules, basic_rules, extended_rules, mobile_view}
 use Rattle.decoder.specs.Fitted.{blank, mobile_defaults, mobile_variables, mobile_fitted}
-use Rattle.decoder.specs.Hearing.{own_address, is_short, is_long, is_consist, mobile_role, by_accessory}
-use Rattle.decoder.specs.Laws.{HearsItsOwn, HasAnAddress, HearsItsKind, HearsAll, HearsItsConsist, HearsAsAddressed, is_mobile_address, target_at}
+use Rattle.decoder.specs.Hearing.{own_address, is_short, is_long, is_consist, consist_of, mobile_role, by_accessory}
+use Rattle.decoder.specs.Laws.{HearsItsOwn, HasAnAddress, HearsItsKind, HearsAll, HearsAsAddressed, is_mobile_address, target_at}
 
 own_short : (a : ℕ) → is_mobile_address (address.Short a) ≡ true → own_address 2 a 192 0 ≡ Some (address.Short a)
 own_short a h = cond-true _ _ _ h
@@ -80,9 +80,6 @@ hears_all = record {
 consist_is : (c a : ℕ) (mine : Bool) → cond mine (Some role.Own) (cond (is_consist a c) (Some role.Consist) None) ≡ Some role.Consist → cond (eqb (c % 128) 0) None (Some (c % 128)) ≡ Some a
 consist_is c a mine h = grind (arith, nat_tests)
 
-pub hears_its_consist : HearsItsConsist
-hears_its_consist o a h = consist_is (variable o.vars 19) a _ h
-
 -- a packet that is heard as its own is to the address that stands
 own_short_is : (a : ℕ) (other : Bool) (v : Option Address) → cond (is_short a v) (Some role.Own) (cond other (Some role.Consist) None) ≡ Some role.Own → v ≡ Some (address.Short a)
 own_short_is a true None h = cc
@@ -105,17 +102,42 @@ not_short a (Some (address.Long b)) ne = refl
 consist_at : (c a : ℕ) → cond (eqb (c % 128) 0) None (Some (c % 128)) ≡ Some a → is_consist a c ≡ true
 consist_at c a h = grind (arith, nat_tests)
 
+-- a long address is no consist's, and only a broadcast is to all
+long_is_own : (c : Bool) → cond c (Some role.Own) None ≢ Some role.Consist
+long_is_own true h = let z : ◌≡◌ {A = ℕ} 0 1 = cc in absurd (omega arith)
+long_is_own false h = let z : ◌≡◌ {A = ℕ} 0 1 = cc in absurd (omega arith)
+
+none_is_all : (c d : Bool) (r : Role) → r ≢ role.Everyone → cond c (Some role.Own) (cond d (Some r) None) ≢ Some role.Everyone
+none_is_all true d r ne h = let z : ◌≡◌ {A = ℕ} 0 1 = cc in absurd (omega arith)
+none_is_all false true r ne h = ne cc
+none_is_all false false r ne h = let z : ◌≡◌ {A = ℕ} 0 1 = cc in absurd (omega arith)
+
 pub hears_as_addressed : HearsAsAddressed
 hears_as_addressed = record {
   own = own;
   at_own = at_own;
-  consist = λ o a h ne. cond-false _ _ _ (not_short a (mobile_view o.vars None).own ne) ∙ cond-true _ _ _ (consist_at (variable o.vars 19) a h);
+  consist = consist;
+  everyone = everyone;
+  basic = λ o. heard_there o.rec.address 511;
+  extended = λ o. heard_there o.rec.address 2047;
+  at_consist = λ o a h ne. cond-false _ _ _ (not_short a (mobile_view o.vars None).own ne) ∙ cond-true _ _ _ (consist_at (variable o.vars 19) a h);
 }
   where
     own : (o : Own Mobile) (t : Target) → mobile_rules.hears o t ≡ Some role.Own → (a : Address) × ((mobile_view o.vars None).own ≡ Some a) × (t ≡ target_at a)
     own o (target.Short a) h = (address.Short a, own_short_is a _ _ h, refl)
     own o (target.Long a) h = (address.Long a, own_long_is a _ h, refl)
     own o t h = cc
+
+    consist : (o : Own Mobile) (t : Target) → mobile_rules.hears o t ≡ Some role.Consist → (a : ℕ) × (consist_of (mobile_view o.vars None) ≡ Some a) × (t ≡ target.Short a)
+    consist o (target.Short a) h = (a, consist_is (variable o.vars 19) a _ h, refl)
+    consist o (target.Long a) h = absurd (long_is_own _ h)
+    consist o t h = cc
+
+    everyone : (o : Own Mobile) (t : Target) → mobile_rules.hears o t ≡ Some role.Everyone → t ≡ target.Broadcast
+    everyone o target.Broadcast h = refl
+    everyone o (target.Short a) h = absurd (none_is_all _ _ role.Consist (λ e. let z : ◌≡◌ {A = ℕ} 0 1 = cc in omega arith) h)
+    everyone o (target.Long a) h = absurd (none_is_all _ false role.Consist (λ e. let z : ◌≡◌ {A = ℕ} 0 1 = cc in omega arith) h)
+    everyone o t h = cc
 
     at_own : (o : Own Mobile) (a : Address) → (mobile_view o.vars None).own ≡ Some a → mobile_rules.hears o (target_at a) ≡ Some role.Own
     at_own o (address.Short a) e = cond-true _ _ _ (by_short a _ e)

@@ -32,7 +32,7 @@ use Rattle.decoder.proofs.Begun.{powers_up, fits}
 use Rattle.decoder.proofs.Consists.{hard_resets, speed_in_consist, instructions_put}
 use Rattle.decoder.proofs.Gone.{speeds_in_order, speed_acts, functions_told}
 use Rattle.decoder.proofs.Grouped.{groups_name_each}
-use Rattle.decoder.proofs.Hearings.{hears_its_own, has_an_address, hears_its_kind, hears_all, hears_its_consist, hears_as_addressed}
+use Rattle.decoder.proofs.Hearings.{hears_its_own, has_an_address, hears_its_kind, hears_all, hears_as_addressed}
 use Rattle.decoder.proofs.Lawfuls.{same_cond}
 use Rattle.decoder.proofs.Same.{packets_wait}
 use Rattle.decoder.proofs.Showings.{others_keep as keeps_others, accessories_show}
@@ -348,7 +348,6 @@ laws = record {
   fits = fits;
   others_keep = keeps_others;
   accessories = accessories_show;
-  consist_address = hears_its_consist;
   packets_wait = packets_wait;
   switches_act = switches_act;
   acts_answered = acts_answered;

@@ -218,8 +218,8 @@ pub record FunctionsTold : Type 0 where
   pub told : (fs : List Bool) (n : ℕ) → n ≤ 68 → function_at fs n ≡ Some (slice_index_or fs n false)
   pub beyond : (fs : List Bool) (n : ℕ) → 69 ≤ n → function_at fs n ≡ None
 
--- every decoder hears what is sent to all of its kind, accessory decoders that are not at the broadcast address themselves:
--- these hear it as their own. An accessory decoder hears nothing but that and its own address
+-- every decoder hears what is sent to all of its kind, and as such, but an accessory decoder that is at the broadcast address
+-- itself, which hears it as its own. An accessory decoder hears nothing but that and its own address
 pub record HearsAll : Type 0 where
   pub mobile : (o : Own Mobile) → mobile_rules.hears o target.Broadcast ≡ Some role.Everyone
   pub basic : (o : Own Basic) → o.rec.address ≢ 511 → basic_rules.hears o (target.Basic 511) ≡ Some role.Everyone
@@ -286,16 +286,18 @@ pub record AccessoriesShow : Type 0 where
   pub basic_address : (o : Own Basic) (r : Role) (bs : List ℕ) (i : Instruction) → (basic_rules.obeys o r bs i).rec.address ≡ o.rec.address
   pub extended_address : (o : Own Extended) (r : Role) (bs : List ℕ) (i : Instruction) → (extended_rules.obeys o r bs i).rec.address ≡ o.rec.address
 
--- the consist address by which it hears is that of its consist
-abbrev pub HearsItsConsist : Type 0
-HearsItsConsist = (o : Own Mobile) (a : ℕ) → mobile_rules.hears o (target.Short a) ≡ Some role.Consist → consist_of (mobile_view o.vars None) ≡ Some a
-
--- and the other way: a packet that a mobile decoder hears as its own is to the address that its variables hold, and each
--- packet to that it hears so; a packet to the address of its consist it hears as its consist's, unless that is its own
+-- a packet that a mobile decoder hears as its own is to the address that its variables hold, and each packet to that it hears
+-- so; one that it hears as its consist's is to the short address of its consist, and each packet to that it hears so unless
+-- that is its own; and only a broadcast it hears as sent to all. An accessory decoder hears as its own what is sent to the
+-- address that it holds
 pub record HearsAsAddressed : Type 0 where
   pub own : (o : Own Mobile) (t : Target) → mobile_rules.hears o t ≡ Some role.Own → (a : Address) × ((mobile_view o.vars None).own ≡ Some a) × (t ≡ target_at a)
   pub at_own : (o : Own Mobile) (a : Address) → (mobile_view o.vars None).own ≡ Some a → mobile_rules.hears o (target_at a) ≡ Some role.Own
-  pub consist : (o : Own Mobile) (a : ℕ) → consist_of (mobile_view o.vars None) ≡ Some a → (mobile_view o.vars None).own ≢ Some (address.Short a) → mobile_rules.hears o (target.Short a) ≡ Some role.Consist
+  pub consist : (o : Own Mobile) (t : Target) → mobile_rules.hears o t ≡ Some role.Consist → (a : ℕ) × (consist_of (mobile_view o.vars None) ≡ Some a) × (t ≡ target.Short a)
+  pub at_consist : (o : Own Mobile) (a : ℕ) → consist_of (mobile_view o.vars None) ≡ Some a → (mobile_view o.vars None).own ≢ Some (address.Short a) → mobile_rules.hears o (target.Short a) ≡ Some role.Consist
+  pub everyone : (o : Own Mobile) (t : Target) → mobile_rules.hears o t ≡ Some role.Everyone → t ≡ target.Broadcast
+  pub basic : (o : Own Basic) → basic_rules.hears o (target.Basic o.rec.address) ≡ Some role.Own
+  pub extended : (o : Own Extended) → extended_rules.hears o (target.Extended o.rec.address) ≡ Some role.Own
 
 -- by the own address or to all a group of functions switches those, and a binary state by its number that one
 pub record SwitchesAct : Type 0 where
@@ -372,7 +374,6 @@ pub record Laws : Type 0 where
   pub fits : Fits
   pub others_keep : OthersKeep
   pub accessories : AccessoriesShow
-  pub consist_address : HearsItsConsist
   pub packets_wait : PacketsWait
   pub switches_act : SwitchesAct
   pub acts_answered : ActsAnswered
