@@ -3,8 +3,6 @@
 #![tactic(auto)]
 
 #[cfg(test)]
-mod accessories;
-#[cfg(test)]
 mod helpers;
 #[cfg(test)]
 mod mobiles;

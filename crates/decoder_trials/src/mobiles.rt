@@ -1,9 +1,7 @@
 use crate::helpers::{fit, send, step, value};
-use bank::{Kind, power_up, set_variable};
+use bank::Kind;
 use decoder::Mobile;
 use memory::{ByteMemory, Memory, Strip, WordMemory};
-use packet::CvNumber;
-use state::Reply;
 use std::process::Abort;
 use std::test::Fail;
 
@@ -66,107 +64,5 @@ fn each_decoder_waits_for_itself(rt: HostRuntime) -> Result<(), Fail> {
     send(&mut bank, Kind::Mobile, &TWO, &mut memory, &WRITE_THREE)?;
     assert_eq!(rt; value(&mut memory, 0, 4)?, 10);
     assert_eq!(rt; value(&mut memory, 1, 4)?, 0);
-    Ok(())
-}
-
-#[test]
-fn a_setting_and_a_power_up_end_the_wait(rt: HostRuntime) -> Result<(), Fail> {
-    let mut bytes = [0u8; 1024];
-    let mut memory = ByteMemory::new(&mut bytes);
-    let mut bank = [Mobile::new()];
-    let one = [Kind::Mobile];
-    fit(&rt, &mut memory, 0, 3);
-    let cv = CvNumber::new(60).ok_or("no such variable")?;
-    send(&mut bank, Kind::Mobile, &one, &mut memory, &WRITE_THREE)?;
-    assert_eq!(rt; set_variable(&mut bank, 0, &mut memory, 0, cv, 7), Ok(()));
-    send(&mut bank, Kind::Mobile, &one, &mut memory, &WRITE_THREE)?;
-    assert_eq!(rt; value(&mut memory, 0, 4)?, 0);
-    assert_eq!(rt; power_up(&mut bank, Kind::Mobile, &one), Ok(()));
-    send(&mut bank, Kind::Mobile, &one, &mut memory, &WRITE_THREE)?;
-    assert_eq!(rt; value(&mut memory, 0, 4)?, 0);
-    assert_eq!(rt; value(&mut memory, 0, 60)?, 7);
-    send(&mut bank, Kind::Mobile, &one, &mut memory, &WRITE_THREE)?;
-    assert_eq!(rt; value(&mut memory, 0, 4)?, 10);
-    Ok(())
-}
-
-#[test]
-fn a_consist_takes_speed_and_nothing_else(rt: HostRuntime) -> Result<(), Fail> {
-    let mut bytes = [0u8; 1024];
-    let mut memory = ByteMemory::new(&mut bytes);
-    let mut bank = [Mobile::new()];
-    let one = [Kind::Mobile];
-    fit(&rt, &mut memory, 0, 3);
-    assert_eq!(rt;
-        send(
-            &mut bank,
-            Kind::Mobile,
-            &one,
-            &mut memory,
-            &[0x03, 0x13, 0x05, 0x15],
-        )?,
-        1
-    );
-    assert_eq!(rt; value(&mut memory, 0, 19)?, 0x85);
-    send(
-        &mut bank,
-        Kind::Mobile,
-        &one,
-        &mut memory,
-        &[0x03, 0x74, 0x77],
-    )?;
-    assert_eq!(rt; step(&bank[0]), None);
-    send(
-        &mut bank,
-        Kind::Mobile,
-        &one,
-        &mut memory,
-        &[0x05, 0x74, 0x71],
-    )?;
-    assert_eq!(rt; step(&bank[0]), Some(6));
-    assert!(rt; !bank[0].state.forward);
-    send(&mut bank, Kind::Mobile, &one, &mut memory, &WRITE_FIVE)?;
-    send(&mut bank, Kind::Mobile, &one, &mut memory, &WRITE_FIVE)?;
-    assert_eq!(rt; value(&mut memory, 0, 4)?, 0);
-    send(
-        &mut bank,
-        Kind::Mobile,
-        &one,
-        &mut memory,
-        &[0x05, 0x91, 0x94],
-    )?;
-    assert_eq!(rt; bank[0].state.functions.get(1u8), Some(false));
-    Ok(())
-}
-
-#[test]
-fn replies_are_enabled_by_a_bit(rt: HostRuntime) -> Result<(), Fail> {
-    let mut bytes = [0u8; 1024];
-    let mut memory = ByteMemory::new(&mut bytes);
-    let mut bank = [Mobile::new()];
-    let one = [Kind::Mobile];
-    fit(&rt, &mut memory, 0, 3);
-    let verify = [0x03, 0xe4, 0x00, 0x03, 0xe4];
-    send(&mut bank, Kind::Mobile, &one, &mut memory, &verify)?;
-    assert_eq!(rt; bank[0].state.reply, None);
-    assert_eq!(rt; memory.write(28, 10), Ok(()));
-    send(&mut bank, Kind::Mobile, &one, &mut memory, &verify)?;
-    assert_eq!(rt; bank[0].state.reply, Some(Reply::Value(3)));
-    send(
-        &mut bank,
-        Kind::Mobile,
-        &one,
-        &mut memory,
-        &[0x03, 0x0f, 0x0c],
-    )?;
-    assert_eq!(rt; bank[0].state.reply, Some(Reply::Acknowledgment));
-    send(
-        &mut bank,
-        Kind::Mobile,
-        &one,
-        &mut memory,
-        &[0x00, 0x0f, 0x0f],
-    )?;
-    assert_eq!(rt; bank[0].state.reply, None);
     Ok(())
 }
