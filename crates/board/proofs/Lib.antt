@@ -1,3 +1,4 @@
 pub mod Performings
 pub mod Joinings
 pub mod Scripts
+pub mod Beside

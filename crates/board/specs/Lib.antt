@@ -1,3 +1,4 @@
 pub mod Slots
 pub mod Joins
 pub mod Steps
+pub mod Strips

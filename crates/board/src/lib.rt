@@ -6,9 +6,11 @@
 
 pub mod boards;
 mod fitting;
+mod laws;
 mod performing;
 mod running;
 mod runs;
 
 pub use crate::boards::{Fitting, Running};
+pub use crate::laws::strips_kept;
 pub use crate::runs::run;

@@ -49,9 +49,6 @@ module _ {X : Type 0} (m : Rules X) where
   obeys : (o : Own X) (t : Target) (r : Role) (bs : List ℕ) (i : Instruction) → packet_read bs ≡ Ok (packet_of t i) → m.hears o t ≡ Some r → live m o (heard bs) ≡ m.obeys o r bs i
   obeys o t r bs i e f = ap (λ p. obeyed m o bs (hearing m o p)) e ∙ ap (λ h. obeyed m o bs (in_role m h i)) f
 
-  one : (o : Own X) (t : Target) (r s : Role) → m.hears o t ≡ Some r → m.hears o t ≡ Some s → r ≡ s
-  one o t r s e f = cc
-
 -- a write that does not repeat leaves the variables
 first_keeps :
     (offset : ℕ) (w : Option WaitingWrite) (p : WaitingWrite) (a : Option Access) (vars : List ℕ)
@@ -152,7 +149,6 @@ accessory_laws : {S : Type 0} (k : AccessoryKind S) → Sound k → KindLaws (ac
 accessory_laws k sound = record {
   unheard_keeps = unheard (accessory_rules k);
   heard_obeys = obeys (accessory_rules k);
-  one_role = one (accessory_rules k);
   first_waits = λ o r bs i e f. accessory_first (k.after o.rec.state.shown i) (access_of i) o.rec.state.waiting (packed bs) o.vars (sound.apart _ i) e f;
   read_only = λ o r bs i a e h. accessory_read_only (k.after o.rec.state.shown i) (access_of i) o.rec.state.waiting (packed bs) a o.vars (sound.apart _ i) e h;
 }
@@ -314,7 +310,7 @@ keep_variables = record {
 
 pub laws : Laws
 laws = record {
-  mobiles = record { unheard_keeps = unheard mobile_rules; heard_obeys = obeys mobile_rules; one_role = one mobile_rules; first_waits = mobile_first; read_only = mobile_read_only };
+  mobiles = record { unheard_keeps = unheard mobile_rules; heard_obeys = obeys mobile_rules; first_waits = mobile_first; read_only = mobile_read_only };
   basics = accessory_laws basic_kind basic_sound;
   extendeds = accessory_laws extended_kind extended_sound;
   replies = replies_need_all;

@@ -43,8 +43,6 @@ pub record KindLaws {X : Type 0} (m : Rules X) : Type 0 where
   pub unheard_keeps : (o : Own X) (bs : List ℕ) → hearing m o (packet_read bs) ≡ None → live m o (heard bs) ≡ o
   -- one that it hears by some address it obeys in that role
   pub heard_obeys : (o : Own X) (t : Target) (r : Role) (bs : List ℕ) (i : Instruction) → packet_read bs ≡ Ok (packet_of t i) → m.hears o t ≡ Some r → live m o (heard bs) ≡ m.obeys o r bs i
-  -- it hears a packet in at most one role
-  pub one_role : (o : Own X) (t : Target) (r s : Role) → m.hears o t ≡ Some r → m.hears o t ≡ Some s → r ≡ s
   -- a long-form write never changes a variable at its first packet
   pub first_waits : (o : Own X) (r : Role) (bs : List ℕ) (i : Instruction) → is_write i ≡ true → matches (m.waiting o.rec) (packed bs) ≡ false → (m.obeys o r bs i).vars ≡ o.vars
   -- a long form that names the seventh or the eighth of the kind's own variables changes no variable
