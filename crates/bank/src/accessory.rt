@@ -3,8 +3,10 @@ ghost use Rattle.std.proofs.Common.{arith};
 ghost use Rattle.decoder.specs.Alone.{accessory_rules};
 
 use crate::listener::Listener;
-use crate::variables::Variables;
-use decoder::{Accessory, AccessoryView, Effect, Heard, Role, Shown};
+use crate::variables::{Variables, reply_variable};
+use crate::window::Window;
+use decoder::{Access, Accessory, AccessoryView, Effect, Heard, Role, Shown};
+use memory::Memory;
 use packet::Target;
 
 impl<S: Shown> Listener for Accessory<S> {
@@ -28,11 +30,18 @@ impl<S: Shown> Listener for Accessory<S> {
 impl<S: Shown> Variables for Accessory<S> {
     ghost OFFSET = { (accessory_rules S.Shown.kind).offset };
 
-    const OFFSET: u16 = AccessoryView::OFFSET;
+    const OFFSET: u16 = 512;
 
     ghost offset_is = { refl };
 
     ghost offset_most = { omega arith };
+
+    fn view<M: Memory>(window: &mut Window<'_, M>, access: Option<Access>) -> AccessoryView {
+        AccessoryView {
+            config: window.get(reply_variable(Self::OFFSET)),
+            named: window.named(Self::OFFSET, access),
+        }
+    }
 
     fn end_wait(&mut self) {
         self.state.waiting = None;

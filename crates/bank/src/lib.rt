@@ -27,6 +27,6 @@ pub use crate::kind::Kind;
 pub use crate::listener::Listener;
 pub use crate::powering::power_up;
 pub use crate::setting::{set_variable, variable};
-pub use crate::variables::{Variables, is_read_only, reply_variable};
+pub use crate::variables::Variables;
 pub use crate::views::View;
 pub use crate::window::Window;

@@ -3,9 +3,11 @@ ghost use Rattle.std.proofs.Common.{arith};
 ghost use Rattle.decoder.specs.Alone.{mobile_rules};
 
 use crate::listener::Listener;
-use crate::variables::Variables;
-use decoder::{Effect, Heard, Mobile, MobileView, Role};
-use packet::Target;
+use crate::variables::{Variables, reply_variable};
+use crate::window::Window;
+use decoder::{Access, Effect, Heard, Mobile, MobileView, Role, own_address};
+use memory::Memory;
+use packet::{CvNumber, Target};
 
 impl Listener for Mobile {
     type View = MobileView;
@@ -28,11 +30,26 @@ impl Listener for Mobile {
 impl Variables for Mobile {
     ghost OFFSET = { mobile_rules.offset };
 
-    const OFFSET: u16 = MobileView::OFFSET;
+    const OFFSET: u16 = 0;
 
     ghost offset_is = { refl };
 
     ghost offset_most = { omega arith };
+
+    fn view<M: Memory>(window: &mut Window<'_, M>, access: Option<Access>) -> MobileView {
+        let config = window.get(reply_variable(Self::OFFSET));
+        let short = window.get(CvNumber::SHORT_ADDRESS);
+        let high = window.get(CvNumber::LONG_ADDRESS_HIGH);
+        let low = window.get(CvNumber::LONG_ADDRESS_LOW);
+        let consist = window.get(CvNumber::CONSIST_ADDRESS);
+        let named = window.named(Self::OFFSET, access);
+        MobileView {
+            own: own_address(config, short, high, low),
+            consist,
+            config,
+            named,
+        }
+    }
 
     fn end_wait(&mut self) {
         self.state.waiting = None;

@@ -64,7 +64,7 @@ module _ {exceptions : List ℕ} (n b : ℕ) (free : Ordinary exceptions n) wher
       (offset : ℕ) (vars : List ℕ) (w : Option WaitingWrite) (p : WaitingWrite) (a : Access)
       → n ≢ offset + 7 → n ≢ offset + 8
       → length vars ≡ 1024
-      → bit n b (applied (cond (access_acts offset w p (accessed (Some a) (named vars (Some a)))) (access_effect (accessed (Some a) (named vars (Some a)))) None) vars)
+      → bit n b (applied (cond (access_acts w p (accessed (Some a) (named offset vars (Some a)))) (access_effect (accessed (Some a) (named offset vars (Some a)))) None) vars)
       ≡ or_else (cond (a.writes && matches w p) (names n b (Some a)) None) (bit n b vars)
   access_names offset vars w p a no7 no8 l =
       go a.writes (matches w p) (barred offset a.cv.number) (agrees a.change (variable vars a.cv.number)) (barred-names offset a no7 no8)
@@ -140,7 +140,7 @@ module _ (vars : List ℕ) (n b : ℕ) (l : length vars ≡ 1024) (free : Ordina
   accessory_any :
       {Y : Type 0} (own : Option Y) (a : Option Access) (w : Option WaitingWrite) (p : WaitingWrite)
       → Apart own a
-      → bit n b (applied (cond (is_some own || access_acts 512 w p (accessed a (named vars a))) (access_effect (accessed a (named vars a))) None) vars)
+      → bit n b (applied (cond (is_some own || access_acts w p (accessed a (named 512 vars a))) (access_effect (accessed a (named 512 vars a))) None) vars)
       ≡ or_else (cond (writes_by a && matches w p) (names n b a) None) (bit n b vars)
   accessory_any own None w p h = ap (bit n b) (same_cond (is_some own || false) vars)
   accessory_any None (Some a) w p h = access_names n b free 512 vars w p a free.not_excepted.0 free.not_excepted.1.0 l

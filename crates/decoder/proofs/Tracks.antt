@@ -54,7 +54,7 @@ first_keeps :
     (offset : ℕ) (w : Option WaitingWrite) (p : WaitingWrite) (a : Option Access) (vars : List ℕ)
     → writes_by a ≡ true
     → matches w p ≡ false
-    → applied (cond (access_acts offset w p (accessed a (named vars a))) (access_effect (accessed a (named vars a))) None) vars ≡ vars
+    → applied (cond (access_acts w p (accessed a (named offset vars a))) (access_effect (accessed a (named offset vars a))) None) vars ≡ vars
 first_keeps offset w p None vars e f = absurd (false≢true e)
 first_keeps offset w p (Some a) vars e f = go a.writes (matches w p) e f
   where
@@ -78,7 +78,7 @@ accessory_first :
     → Apart own a
     → writes_by a ≡ true
     → matches w p ≡ false
-    → applied (cond (is_some own || access_acts 512 w p (accessed a (named vars a))) (access_effect (accessed a (named vars a))) None) vars ≡ vars
+    → applied (cond (is_some own || access_acts w p (accessed a (named 512 vars a))) (access_effect (accessed a (named 512 vars a))) None) vars ≡ vars
 accessory_first None a w p vars h e f = first_keeps 512 w p a vars e f
 accessory_first (Some y) None w p vars h e f = absurd (false≢true e)
 accessory_first (Some y) (Some a) w p vars h e f = absurd (true≢false h)
@@ -90,7 +90,7 @@ barred_at offset n h = ⊎_elim (λ e. grind (arith, nat_tests)) (λ e. grind (a
 barred_stays :
     (offset : ℕ) (w : Option WaitingWrite) (p : WaitingWrite) (a : Access) (vars : List ℕ)
     → (a.cv.number ≡ offset + 7) ⊎ (a.cv.number ≡ offset + 8)
-    → applied (cond (access_acts offset w p (accessed (Some a) (named vars (Some a)))) (access_effect (accessed (Some a) (named vars (Some a)))) None) vars ≡ vars
+    → applied (cond (access_acts w p (accessed (Some a) (named offset vars (Some a)))) (access_effect (accessed (Some a) (named offset vars (Some a)))) None) vars ≡ vars
 barred_stays offset w p a vars h = go a.writes (matches w p) (barred offset a.cv.number) (agrees a.change v) (barred_at offset a.cv.number h)
   where
     v : ℕ
@@ -108,7 +108,7 @@ any_stays :
     (offset : ℕ) (w : Option WaitingWrite) (p : WaitingWrite) (l : Option Access) (a : Access) (vars : List ℕ)
     → l ≡ Some a
     → (a.cv.number ≡ offset + 7) ⊎ (a.cv.number ≡ offset + 8)
-    → applied (cond (access_acts offset w p (accessed l (named vars l))) (access_effect (accessed l (named vars l))) None) vars ≡ vars
+    → applied (cond (access_acts w p (accessed l (named offset vars l))) (access_effect (accessed l (named offset vars l))) None) vars ≡ vars
 any_stays offset w p l a vars e h = rw e (barred_stays offset w p a vars h)
 
 mobile_read_only : (o : Own Mobile) (r : Role) (bs : List ℕ) (i : Instruction) (a : Access) → access_of i ≡ Some a → (a.cv.number ≡ 0 + 7) ⊎ (a.cv.number ≡ 0 + 8) → (mobile_rules.obeys o r bs i).vars ≡ o.vars
@@ -127,7 +127,7 @@ accessory_read_only :
     → Apart own l
     → l ≡ Some a
     → (a.cv.number ≡ 512 + 7) ⊎ (a.cv.number ≡ 512 + 8)
-    → applied (cond (is_some own || access_acts 512 w p (accessed l (named vars l))) (access_effect (accessed l (named vars l))) None) vars ≡ vars
+    → applied (cond (is_some own || access_acts w p (accessed l (named 512 vars l))) (access_effect (accessed l (named 512 vars l))) None) vars ≡ vars
 accessory_read_only None l w p a vars apart e h = any_stays 512 w p l a vars e h
 accessory_read_only (Some y) None w p a vars apart e h = refl
 accessory_read_only (Some y) (Some b) w p a vars apart e h = absurd (true≢false apart)
@@ -282,9 +282,9 @@ others_keep o r bs (Functions group bits) e = absurd (true≢false e)
 others_keep o r bs i e = either _ o.rec.state _ refl
 
 -- what is no write leaves the variables, whether or not it acts
-no_write_keeps : (acts : Bool) (a : Option Access) (vars : List ℕ) → writes_by a ≡ false → applied (cond acts (access_effect (accessed a (named vars a))) None) vars ≡ vars
-no_write_keeps acts None vars e = same_cond acts vars
-no_write_keeps acts (Some a) vars e = go acts a.writes e
+no_write_keeps : (offset : ℕ) (acts : Bool) (a : Option Access) (vars : List ℕ) → writes_by a ≡ false → applied (cond acts (access_effect (accessed a (named offset vars a))) None) vars ≡ vars
+no_write_keeps offset acts None vars e = same_cond acts vars
+no_write_keeps offset acts (Some a) vars e = go acts a.writes e
   where
     go : (c writes : Bool) → writes ≡ false → applied (cond c (cond writes (Some (effect.Put a.cv (result a.change (variable vars a.cv.number)))) None) None) vars ≡ vars
     go true false e = refl
@@ -294,8 +294,8 @@ no_write_keeps acts (Some a) vars e = go acts a.writes e
 keep_variables : OthersKeepVariables
 keep_variables = record {
   mobile = mobile;
-  basic = λ o r bs i e. no_write_keeps _ (access_of i) o.vars e;
-  extended = λ o r bs i e. no_write_keeps _ (access_of i) o.vars e;
+  basic = λ o r bs i e. no_write_keeps 512 _ (access_of i) o.vars e;
+  extended = λ o r bs i e. no_write_keeps 512 _ (access_of i) o.vars e;
 }
   where
     mobile : (o : Own Mobile) (r : Role) (bs : List ℕ) (i : Instruction) → touches_variables i ≡ false → (mobile_rules.obeys o r bs i).vars ≡ o.vars

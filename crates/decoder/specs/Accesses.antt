@@ -12,6 +12,7 @@ use Rattle.decoder.specs.declared.effect.Access.{Access}
 use Rattle.decoder.specs.declared.role.Role.{Role}
 use Rattle.decoder.specs.declared.role.Role.TheVariants as role
 use Rattle.decoder.specs.declared.effect.Accessed.{Accessed}
+use Rattle.decoder.specs.declared.view.NamedVariable.{NamedVariable}
 
 abbrev pub access : CvNumber → Bool → Change → Access
 access cv writes c = record { cv = cv; writes = writes; change = c }
@@ -51,6 +52,17 @@ abbrev pub result : Change → ℕ → ℕ
 result (Byte x) v = x
 result (Bit b on) v = with_bit v (b % 8) on
 
+-- how many variables stand before the own ones of mobile decoders, and of accessory decoders
+abbrev pub mobile_offset : ℕ
+mobile_offset = 0
+
+abbrev pub accessory_offset : ℕ
+accessory_offset = 512
+
+-- bit 3 of the 29th of the kind's own variables enables replies
+abbrev pub reply_variable : ℕ → ℕ
+reply_variable offset = offset + 29
+
 -- packets never write the seventh and the eighth of the kind's own variables
 abbrev pub barred : ℕ → ℕ → Bool
 barred offset n = n == offset + 7 || n == offset + 8
@@ -74,12 +86,13 @@ abbrev pub waits_after : Option WaitingWrite → Role → WaitingWrite → Instr
 waits_after w r p i = cond (writes_in r i && not (matches w p)) (Some p) None
 
 -- a long form, and the variable that it names as it stands
-abbrev pub accessed : Option Access → Option ℕ → Option Accessed
+abbrev pub accessed : Option Access → Option NamedVariable → Option Accessed
 accessed None v = None
 accessed (Some a) None = None
-accessed (Some a) (Some v) = Some (record { access = a; value = v })
+accessed (Some a) (Some v) = Some (record { access = a; value = v.value; read_only = v.read_only })
 
--- a verify acts if the variable agrees, a write at its repetition, unless the variable is barred
-abbrev pub access_acts : ℕ → Option WaitingWrite → WaitingWrite → Option Accessed → Bool
-access_acts offset w p None = false
-access_acts offset w p (Some a) = cond a.access.writes (matches w p && not (barred offset a.access.cv.number)) (agrees a.access.change a.value)
+-- a verify acts if the variable agrees, a write at its repetition, unless the variable is read-only
+abbrev pub access_acts : Option WaitingWrite → WaitingWrite → Option Accessed → Bool
+access_acts w p None = false
+access_acts w p (Some a) =
+    cond a.access.writes (matches w p && not a.read_only) (agrees a.access.change a.value)

@@ -77,7 +77,7 @@ extended_kind = record { start = extended_start; role = extended_role; after = �
 module _ {S : Type 0} (k : AccessoryKind S) where
   -- an instruction of the kind's own acts, and a long form by its rules
   abbrev pub accessory_acts : AccessoryState S → AccessoryView → Heard → Bool
-  accessory_acts s v h = is_some (k.after s.shown h.instruction) || access_acts 512 s.waiting h.packet (accessed (access_of h.instruction) v.value)
+  accessory_acts s v h = is_some (k.after s.shown h.instruction) || access_acts s.waiting h.packet (accessed (access_of h.instruction) v.named)
 
   -- a packet that is heard in a role: the volatile part afterwards
   abbrev pub accessory_after : AccessoryState S → AccessoryView → Heard → AccessoryState S
@@ -85,9 +85,9 @@ module _ {S : Type 0} (k : AccessoryKind S) where
       record {
         shown = unwrap_or (k.after s.shown h.instruction) s.shown;
         waiting = waits_after s.waiting h.role h.packet h.instruction;
-        reply = reply_after v.config (accessed (access_of h.instruction) v.value) h.role (accessory_acts s v h);
+        reply = reply_after v.config (accessed (access_of h.instruction) v.named) h.role (accessory_acts s v h);
       }
 
   -- and what becomes of the variables
   abbrev pub accessory_plan : AccessoryState S → AccessoryView → Heard → Option Effect
-  accessory_plan s v h = cond (accessory_acts s v h) (access_effect (accessed (access_of h.instruction) v.value)) None
+  accessory_plan s v h = cond (accessory_acts s v h) (access_effect (accessed (access_of h.instruction) v.named)) None

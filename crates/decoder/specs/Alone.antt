@@ -15,7 +15,8 @@ use Rattle.decoder.specs.declared.records.Accessory.{Accessory}
 use Rattle.decoder.specs.declared.role.Role.{Role}
 use Rattle.decoder.specs.declared.view.MobileView.{MobileView}
 use Rattle.decoder.specs.declared.view.AccessoryView.{AccessoryView}
-use Rattle.decoder.specs.Accesses.{access_of}
+use Rattle.decoder.specs.declared.view.NamedVariable.{NamedVariable}
+use Rattle.decoder.specs.Accesses.{access_of, mobile_offset, accessory_offset, reply_variable, barred}
 use Rattle.decoder.specs.Fresh.{Basic, Extended, fresh_mobile, fresh_accessory}
 use Rattle.decoder.specs.Hearing.{own_address, mobile_role}
 use Rattle.decoder.specs.Mobiles.{mobile_after, mobile_noted, mobile_plan}
@@ -33,22 +34,26 @@ own x w = record { rec = x; vars = w }
 abbrev pub variable : List ℕ → ℕ → ℕ
 variable vars n = slice_index vars (n - 1)
 
--- the variable that an access names, if it names one
-abbrev pub named : List ℕ → Option Access → Option ℕ
-named vars None = None
-named vars (Some a) = Some (variable vars a.cv.number)
+-- the variable that an access names, if it names one, where so many stand before the kind's own
+abbrev pub named : ℕ → List ℕ → Option Access → Option NamedVariable
+named offset vars None = None
+named offset vars (Some a) =
+    Some (record { value = variable vars a.cv.number; read_only = barred offset a.cv.number })
 
 -- what decides among the variables
 abbrev pub mobile_view : List ℕ → Option Access → MobileView
 mobile_view vars a = record {
   own = own_address (variable vars 29) (variable vars 1) (variable vars 17) (variable vars 18);
   consist = variable vars 19;
-  config = variable vars 29;
-  value = named vars a;
+  config = variable vars (reply_variable mobile_offset);
+  named = named mobile_offset vars a;
 }
 
 abbrev pub accessory_view : List ℕ → Option Access → AccessoryView
-accessory_view vars a = record { config = variable vars 541; value = named vars a }
+accessory_view vars a = record {
+  config = variable vars (reply_variable accessory_offset);
+  named = named accessory_offset vars a;
+}
 
 -- what an effect leaves of the variables
 abbrev pub applied : Option Effect → List ℕ → List ℕ
@@ -77,7 +82,7 @@ pub record Rules (X : Type 0) : Type 0 where
 
 abbrev pub mobile_rules : Rules Mobile
 mobile_rules = record {
-  offset = 0;
+  offset = mobile_offset;
   hears = λ o t. mobile_role (mobile_view o.vars None) t;
   obeys = λ o r bs i. own (record { state = mobile_after o.rec.state (mobile_view o.vars (access_of i)) (as_heard r bs i) }) (applied (mobile_plan o.rec.state (mobile_view o.vars (access_of i)) (as_heard r bs i)) o.vars);
   starts = λ x. fresh_mobile;
@@ -87,7 +92,7 @@ mobile_rules = record {
 
 abbrev pub accessory_rules : {S : Type 0} → AccessoryKind S → Rules (Accessory S)
 accessory_rules k = record {
-  offset = 512;
+  offset = accessory_offset;
   hears = λ o t. k.role o.rec.address t;
   obeys = λ o r bs i. own (record { address = o.rec.address; state = accessory_after k o.rec.state (accessory_view o.vars (access_of i)) (as_heard r bs i) }) (applied (accessory_plan k o.rec.state (accessory_view o.vars (access_of i)) (as_heard r bs i)) o.vars);
   starts = λ x. fresh_accessory k x.address;

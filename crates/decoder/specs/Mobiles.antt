@@ -46,10 +46,10 @@ fully_acts s v r p (BinaryStateShort on number) = true
 fully_acts s v r p (BinaryStateLong on number) = not (nat_lt 2047 number)
 fully_acts s v r p (AccelerationAdjustment value) = true
 fully_acts s v r p (DecelerationAdjustment value) = true
-fully_acts s v r p (VerifyByte cv value) = access_acts 0 s.waiting p (accessed (access_of (VerifyByte cv value)) v.value)
-fully_acts s v r p (WriteByte cv value) = access_acts 0 s.waiting p (accessed (access_of (WriteByte cv value)) v.value)
-fully_acts s v r p (VerifyBit cv bit value) = access_acts 0 s.waiting p (accessed (access_of (VerifyBit cv bit value)) v.value)
-fully_acts s v r p (WriteBit cv bit value) = access_acts 0 s.waiting p (accessed (access_of (WriteBit cv bit value)) v.value)
+fully_acts s v r p (VerifyByte cv value) = access_acts s.waiting p (accessed (access_of (VerifyByte cv value)) v.named)
+fully_acts s v r p (WriteByte cv value) = access_acts s.waiting p (accessed (access_of (WriteByte cv value)) v.named)
+fully_acts s v r p (VerifyBit cv bit value) = access_acts s.waiting p (accessed (access_of (VerifyBit cv bit value)) v.named)
+fully_acts s v r p (WriteBit cv bit value) = access_acts s.waiting p (accessed (access_of (WriteBit cv bit value)) v.named)
 fully_acts s v r p (Output number on) = false
 fully_acts s v r p (Aspect number) = false
 
@@ -167,10 +167,10 @@ mobile_effect v (BinaryStateShort on number) = None
 mobile_effect v (BinaryStateLong on number) = None
 mobile_effect v (AccelerationAdjustment value) = Some (effect.Put acceleration_adjustment value)
 mobile_effect v (DecelerationAdjustment value) = Some (effect.Put deceleration_adjustment value)
-mobile_effect v (VerifyByte cv value) = access_effect (accessed (access_of (VerifyByte cv value)) v.value)
-mobile_effect v (WriteByte cv value) = access_effect (accessed (access_of (WriteByte cv value)) v.value)
-mobile_effect v (VerifyBit cv bit value) = access_effect (accessed (access_of (VerifyBit cv bit value)) v.value)
-mobile_effect v (WriteBit cv bit value) = access_effect (accessed (access_of (WriteBit cv bit value)) v.value)
+mobile_effect v (VerifyByte cv value) = access_effect (accessed (access_of (VerifyByte cv value)) v.named)
+mobile_effect v (WriteByte cv value) = access_effect (accessed (access_of (WriteByte cv value)) v.named)
+mobile_effect v (VerifyBit cv bit value) = access_effect (accessed (access_of (VerifyBit cv bit value)) v.named)
+mobile_effect v (WriteBit cv bit value) = access_effect (accessed (access_of (WriteBit cv bit value)) v.named)
 mobile_effect v (Output number on) = None
 mobile_effect v (Aspect number) = None
 
@@ -183,7 +183,7 @@ mobile_noted s w r =
 abbrev pub mobile_after : MobileState → MobileView → Heard → MobileState
 mobile_after s v h =
     mobile_noted (cond (mobile_acts s v h.role h.packet h.instruction) (mobile_changed s v h.role h.instruction) s) (waits_after s.waiting h.role h.packet h.instruction)
-    (reply_after v.config (accessed (access_of h.instruction) v.value) h.role (mobile_acts s v h.role h.packet h.instruction))
+    (reply_after v.config (accessed (access_of h.instruction) v.named) h.role (mobile_acts s v h.role h.packet h.instruction))
 
 abbrev pub mobile_plan : MobileState → MobileView → Heard → Option Effect
 mobile_plan s v h = cond (mobile_acts s v h.role h.packet h.instruction) (mobile_effect v h.instruction) None

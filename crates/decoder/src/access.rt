@@ -5,6 +5,7 @@ ghost use Rattle.decoder.specs.Mobiles.{access_effect};
 use crate::effect::{Access, Accessed, Change, Effect};
 use crate::heard::Heard;
 use crate::role::Role;
+use crate::view::NamedVariable;
 use packet::Instruction;
 use state::{WaitingWrite, has_bit, with_bit};
 
@@ -55,7 +56,7 @@ pub fn barred(offset: u16, number: u16) -> bool
 pub(crate) fn access_effect(accessed: Option<Accessed>) -> Option<Effect>
     ensures { result ≡ access_effect accessed }
 {
-    let Accessed { access, value } = accessed?;
+    let Accessed { access, value, .. } = accessed?;
     access.writes.then_some(Effect::Put {
         cv: access.cv,
         value: access.change.result(value),
@@ -64,12 +65,15 @@ pub(crate) fn access_effect(accessed: Option<Accessed>) -> Option<Effect>
 
 impl Heard {
     /// The long form that it is, if it is one and this is the variable that it names.
-    pub(crate) fn accessed(self, value: Option<u8>) -> Option<Accessed>
-        ensures { result ≡ accessed_of (access_of self.instruction) value }
+    pub(crate) fn accessed(self, named: Option<NamedVariable>) -> Option<Accessed>
+        ensures { result ≡ accessed_of (access_of self.instruction) named }
     {
+        let access = access_of(self.instruction)?;
+        let NamedVariable { value, read_only } = named?;
         Some(Accessed {
-            access: access_of(self.instruction)?,
-            value: value?,
+            access,
+            value,
+            read_only,
         })
     }
 
@@ -89,19 +93,14 @@ impl Heard {
     }
 
     /// Whether it acts as a long form, this one.
-    pub(crate) fn accesses(
-        self,
-        offset: u16,
-        waiting: Option<WaitingWrite>,
-        accessed: Option<Accessed>,
-    ) -> bool
-        ensures { result ≡ access_acts offset waiting self.packet accessed }
+    pub(crate) fn accesses(self, waiting: Option<WaitingWrite>, accessed: Option<Accessed>) -> bool
+        ensures { result ≡ access_acts waiting self.packet accessed }
     {
         match accessed {
-            Some(Accessed { access, .. }) if access.writes => {
-                self.packet.repeats(waiting) && !barred(offset, access.cv.get())
+            Some(named) if named.access.writes => {
+                self.packet.repeats(waiting) && !named.read_only
             }
-            Some(Accessed { access, value }) => access.change.agrees(value),
+            Some(named) => named.access.change.agrees(named.value),
             None => false,
         }
     }

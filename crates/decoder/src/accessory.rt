@@ -25,10 +25,9 @@ impl<S: Shown> Accessory<S> {
         ensures address { self.new.address ≡ self.old.address }
     {
         let state = &mut self.state;
-        let accessed = heard.accessed(view.value);
+        let accessed = heard.accessed(view.named);
         let shown = state.shown.after(heard.instruction);
-        let acted = shown.is_some()
-            || heard.accesses(AccessoryView::OFFSET, state.waiting, accessed);
+        let acted = shown.is_some() || heard.accesses(state.waiting, accessed);
         state.shown = shown.unwrap_or(state.shown);
         // Not shared with a mobile decoder, which a reset brings to its start between these two lines and what is
         // noted then.

@@ -21,6 +21,7 @@ pub struct Access {
 pub(crate) struct Accessed {
     pub access: Access,
     pub value: u8,
+    pub read_only: bool,
 }
 
 /// What an instruction does to the variables.

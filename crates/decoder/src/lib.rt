@@ -23,4 +23,4 @@ pub use crate::laws::{examples_hold, rules_keep, variables_persist};
 pub use crate::records::{Accessory, Basic, Extended, Mobile};
 pub use crate::role::{Address, Role};
 pub use crate::shown::Shown;
-pub use crate::view::{AccessoryView, MobileView};
+pub use crate::view::{AccessoryView, MobileView, NamedVariable};

@@ -25,11 +25,7 @@ fn fully_acts(state: &MobileState, view: &MobileView, heard: Heard) -> bool
         Instruction::VerifyByte { .. }
         | Instruction::WriteByte { .. }
         | Instruction::VerifyBit { .. }
-        | Instruction::WriteBit { .. } => heard.accesses(
-            MobileView::OFFSET,
-            state.waiting,
-            heard.accessed(view.value),
-        ),
+        | Instruction::WriteBit { .. } => heard.accesses(state.waiting, heard.accessed(view.named)),
         _ => true,
     }
 }
@@ -132,7 +128,7 @@ fn effect(view: &MobileView, heard: Heard) -> Option<Effect>
         Instruction::VerifyByte { .. }
         | Instruction::WriteByte { .. }
         | Instruction::VerifyBit { .. }
-        | Instruction::WriteBit { .. } => access_effect(heard.accessed(view.value)),
+        | Instruction::WriteBit { .. } => access_effect(heard.accessed(view.named)),
         _ => None,
     }
 }
@@ -145,7 +141,7 @@ impl Mobile {
     {
         let acted = acts(&self.state, view, heard);
         let waiting = heard.waits_after(self.state.waiting);
-        let reply = heard.reply(view.config, heard.accessed(view.value), acted);
+        let reply = heard.reply(view.config, heard.accessed(view.named), acted);
         if acted {
             change(&mut self.state, view, heard);
         }

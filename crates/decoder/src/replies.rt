@@ -11,7 +11,7 @@ fn answer_of(accessed: Option<Accessed>) -> Reply
     ensures { result ≡ answer_of accessed }
 {
     match accessed {
-        Some(Accessed { access, value })
+        Some(Accessed { access, value, .. })
             if !access.writes && matches!(access.change, Change::Byte(_)) => Reply::Value(value),
         _ => Reply::Acknowledgment,
     }

@@ -1,5 +1,13 @@
 use crate::role::Address;
 
+/// The variable that a long-form instruction names, as it stands.
+#[derive(Clone, Copy)]
+pub struct NamedVariable {
+    pub value: u8,
+    /// Whether packets never write it.
+    pub read_only: bool,
+}
+
 /// What decides among the variables of a mobile decoder.
 #[derive(Clone, Copy)]
 pub struct MobileView {
@@ -7,27 +15,17 @@ pub struct MobileView {
     pub own: Option<Address>,
     /// Variable 19: the consist address, and in bit 7 whether it runs reversed there.
     pub consist: u8,
-    /// Variable 29.
+    /// The reply variable, 29, which also says which address is its own and in what steps it takes speed.
     pub config: u8,
     /// The variable that the instruction names, if it names one.
-    pub value: Option<u8>,
+    pub named: Option<NamedVariable>,
 }
 
 /// What decides among the variables of an accessory decoder.
 #[derive(Clone, Copy)]
 pub struct AccessoryView {
-    /// Variable 541.
+    /// The reply variable, 541.
     pub config: u8,
     /// The variable that the instruction names, if it names one.
-    pub value: Option<u8>,
-}
-
-impl MobileView {
-    /// How many variables stand before those of mobile decoders.
-    pub const OFFSET: u16 = 0;
-}
-
-impl AccessoryView {
-    /// How many variables stand before those of accessory decoders.
-    pub const OFFSET: u16 = 512;
+    pub named: Option<NamedVariable>,
 }
