@@ -57,7 +57,7 @@ cell_of cells k = let e : 1024 * (k / 1024) + k % 1024 ≡ k = omega arith in in
 
 module _ {M : Type 0} {m : Ghosts M} where
   pub became_none : {w : Window M m} → Became w w (variables w)
-  became_none = record { slot = refl; lender = refl; cells = wrote_none; outside = refl }
+  became_none = record { slot = refl; lender = refl; cells = wrote_none; outside = refl; lenders = refl }
 
   module _ {old new : Window M m} {w : List ℕ} (b : Became old new w) where
     -- what the window holds then
@@ -71,6 +71,7 @@ module _ {M : Type 0} {m : Ghosts M} where
       lender = c.lender ∙ b.lender;
       cells = wrote_then f b.cells (subst (λ s. Wrote (m.cells new.memory.now) (m.cells more.memory.now) s (f (window (m.cells new.memory.now) s))) b.slot c.cells);
       outside = c.outside ∙ b.outside;
+      lenders = c.lenders ∙ b.lenders;
     }
 
   pub length-variables : (w : Window M m) → length (variables w) ≡ 1024

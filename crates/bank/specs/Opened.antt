@@ -17,6 +17,7 @@ module _ {M : Type 0} {m : Ghosts M} where
     pub lender : new.memory.ghost_name ≡ old.memory.ghost_name
     pub cells : m.cells new.memory.now ≡ m.cells old.memory.now
     pub outside : m.outside new.memory.now ≡ m.outside old.memory.now
+    pub lenders : m.lenders new.memory.now ≡ m.lenders old.memory.now
 
   -- the same window, which holds other variables now; nothing else changed, in the memory or outside of it
   pub record Became (old new : Window M m) (w : List ℕ) : Type 0 where
@@ -24,6 +25,7 @@ module _ {M : Type 0} {m : Ghosts M} where
     pub lender : new.memory.ghost_name ≡ old.memory.ghost_name
     pub cells : Wrote (m.cells old.memory.now) (m.cells new.memory.now) old.slot w
     pub outside : m.outside new.memory.now ≡ m.outside old.memory.now
+    pub lenders : m.lenders new.memory.now ≡ m.lenders old.memory.now
 
 -- what a new decoder's variables make of a memory: the window of its slot holds them now;
 -- a memory that has no such window is refused, and stays
@@ -32,3 +34,4 @@ pub record Fits {M : Type 0} (m : Ghosts M) (old new : M) (slot : ℕ) (vars : L
   pub cells : has_window slot (m.cells old) ≡ true → Wrote (m.cells old) (m.cells new) slot vars
   pub refused : has_window slot (m.cells old) ≡ false → m.cells new ≡ m.cells old
   pub outside : m.outside new ≡ m.outside old
+  pub lenders : m.lenders new ≡ m.lenders old

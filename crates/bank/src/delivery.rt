@@ -5,8 +5,8 @@ ghost use Rattle.bank.specs.Kinds.{count_below, count_of, is_kind};
 
 use crate::counting::is_enough;
 use crate::kind::Kind;
-use crate::listener::Listener;
 use crate::slots::SlotsOf;
+use crate::variables::Variables;
 use crate::window::Window;
 use fault::{Fault, Refusal};
 use memory::Memory;
@@ -21,7 +21,7 @@ use packet::Packet;
 // asked of nobody, and without that it would only rename them. `outside` is no part of `Kept`, nor in `setting` of
 // `Wrote`: those
 // compare lists of cells.
-pub fn deliver<T: Listener, M: Memory>(
+pub fn deliver<T: Variables, M: Memory>(
     bank: &mut [T],
     kind: Kind,
     kinds: &[Kind],
@@ -35,6 +35,7 @@ pub fn deliver<T: Listener, M: Memory>(
     ensures refused { is_enough kinds.now kind bank.old (M.Memory.cells memory.old) ≡ false → (bank.new ≡ bank.old) × (M.Memory.cells memory.new ≡ M.Memory.cells memory.old) }
     ensures beyond { (k : ℕ) → 1024 * length kinds.now ≤ k → slice_index (M.Memory.cells memory.new) k ≡ slice_index (M.Memory.cells memory.old) k }
     ensures outside { M.Memory.outside memory.new ≡ M.Memory.outside memory.old }
+    ensures lenders { M.Memory.lenders memory.new ≡ M.Memory.lenders memory.old }
 {
     if !is_enough(bank, kind, kinds, memory) {
         return Err(Refusal::LentTooShort.into());
@@ -42,7 +43,7 @@ pub fn deliver<T: Listener, M: Memory>(
     Ok(deliver_all(bank, kind, kinds, memory, packet, said))
 }
 
-fn deliver_all<T: Listener, M: Memory>(
+fn deliver_all<T: Variables, M: Memory>(
     bank: &mut [T],
     kind: Kind,
     kinds: &[Kind],
@@ -56,6 +57,7 @@ fn deliver_all<T: Listener, M: Memory>(
     ensures turned { Turned (is_kind kinds.now kind) (length kinds.now) (λ _. after_hearing T.Listener.rules packet.now said.target said.instruction) bank.old (M.Memory.cells memory.old) bank.new (M.Memory.cells memory.new) }
     ensures kept { Kept (is_kind kinds.now kind) (length kinds.now) (M.Memory.cells memory.old) (M.Memory.cells memory.new) }
     ensures outside { M.Memory.outside memory.new ≡ M.Memory.outside memory.old }
+    ensures lenders { M.Memory.lenders memory.new ≡ M.Memory.lenders memory.old }
 {
     // By its number: of a zip with `bank.iter_mut()`, which was tried, a proof knows afterwards how many records
     // there are, and none of them.

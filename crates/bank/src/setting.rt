@@ -27,6 +27,7 @@ pub fn set_variable<T: Variables, M: Memory>(
     ensures cells { is_there number slot bank.old (M.Memory.cells memory.old) ≡ true → Wrote (M.Memory.cells memory.old) (M.Memory.cells memory.new) slot (slice_set (window (M.Memory.cells memory.old) slot) (cv.number - 1) value) }
     ensures refused { is_there number slot bank.old (M.Memory.cells memory.old) ≡ false → (bank.new ≡ bank.old) × (M.Memory.cells memory.new ≡ M.Memory.cells memory.old) }
     ensures outside { M.Memory.outside memory.new ≡ M.Memory.outside memory.old }
+    ensures lenders { M.Memory.lenders memory.new ≡ M.Memory.lenders memory.old }
 {
     if number >= bank.len() || !has_window(memory, slot) {
         return Err(Refusal::LentTooShort.into());
@@ -43,6 +44,7 @@ pub fn variable<M: Memory>(memory: &mut M, slot: usize, cv: CvNumber) -> Result<
     ensures answer { result ≡ unless_short (has_window slot (M.Memory.cells memory.old)) (variable_of (window (M.Memory.cells memory.old) slot) cv.number) }
     ensures same { M.Memory.cells memory.new ≡ M.Memory.cells memory.old }
     ensures outside { M.Memory.outside memory.new ≡ M.Memory.outside memory.old }
+    ensures lenders { M.Memory.lenders memory.new ≡ M.Memory.lenders memory.old }
 {
     if !has_window(memory, slot) {
         return Err(Refusal::LentTooShort.into());

@@ -91,6 +91,7 @@ impl Fitting {
         ensures answer { result ≡ fitting_in (length bank.old) (length (M.Memory.cells memory.old)) (fitting_kinds self.old) fit }
         ensures added { Added (fit_kind fit) (record { rec = new; vars = variables_of (fitted fit) }) (fitting_kinds self.old) bank.old (M.Memory.cells memory.old) (fitting_kinds self.new) bank.new (M.Memory.cells memory.new) result }
         ensures outside { M.Memory.outside memory.new ≡ M.Memory.outside memory.old }
+        ensures lenders { M.Memory.lenders memory.new ≡ M.Memory.lenders memory.old }
     {
         let number = self.admit(fit, bank.len())?;
         fit_variables(memory, self.kinds.len(), fit)?;
@@ -112,6 +113,7 @@ impl Fitting {
         ensures answer { result ≡ fitting_in (length mobiles.old) (length (M.Memory.cells memory.old)) (fitting_kinds self.old) (fits.Mobile address) }
         ensures added { Added kind.Mobile (mobile_fitted address) (fitting_kinds self.old) mobiles.old (M.Memory.cells memory.old) (fitting_kinds self.new) mobiles.new (M.Memory.cells memory.new) result }
         ensures outside { M.Memory.outside memory.new ≡ M.Memory.outside memory.old }
+        ensures lenders { M.Memory.lenders memory.new ≡ M.Memory.lenders memory.old }
     {
         self.join(Fit::Mobile(address), Mobile::new(), mobiles, memory)
     }
@@ -126,6 +128,7 @@ impl Fitting {
         ensures answer { result ≡ fitting_in (length basics.old) (length (M.Memory.cells memory.old)) (fitting_kinds self.old) (fits.Basic address) }
         ensures added { Added kind.Basic (basic_fitted address) (fitting_kinds self.old) basics.old (M.Memory.cells memory.old) (fitting_kinds self.new) basics.new (M.Memory.cells memory.new) result }
         ensures outside { M.Memory.outside memory.new ≡ M.Memory.outside memory.old }
+        ensures lenders { M.Memory.lenders memory.new ≡ M.Memory.lenders memory.old }
     {
         self.join(Fit::Basic(address), Basic::new(address), basics, memory)
     }
@@ -140,6 +143,7 @@ impl Fitting {
         ensures answer { result ≡ fitting_in (length extendeds.old) (length (M.Memory.cells memory.old)) (fitting_kinds self.old) (fits.Extended address) }
         ensures added { Added kind.Extended (extended_fitted address) (fitting_kinds self.old) extendeds.old (M.Memory.cells memory.old) (fitting_kinds self.new) extendeds.new (M.Memory.cells memory.new) result }
         ensures outside { M.Memory.outside memory.new ≡ M.Memory.outside memory.old }
+        ensures lenders { M.Memory.lenders memory.new ≡ M.Memory.lenders memory.old }
     {
         self.join(
             Fit::Extended(address),
@@ -158,7 +162,7 @@ impl Fitting {
     ) -> Result<usize, Fault>
         ensures answer { result ≡ fitting (held M.Memory banks.old memory.old) (fitting_kinds self.old) fit }
         ensures joins { Joins fit (fitting_kinds self.old) (held M.Memory banks.old memory.old) (fitting_kinds self.new) (held M.Memory banks.new memory.new) result }
-        ensures lenders { SameLenders banks.old banks.new }
+        ensures lenders { SameLenders M.Memory banks.old memory.old banks.new memory.new }
     {
         match fit {
             Fit::Mobile(address) => self.fit_mobile(banks.mobiles, memory, address),

@@ -24,7 +24,7 @@ impl Running {
         ensures after { decoders (running_kinds self.now) (held M.Memory banks.new memory.new) ≡ after_by (running_kinds self.now) (held M.Memory banks.old memory.old) (λ ds. after_call ds call.now) }
         ensures rest { Rest (running_kinds self.now) (held M.Memory banks.old memory.old) (held M.Memory banks.new memory.new) }
         ensures refused { OnRefusal result (held M.Memory banks.new memory.new ≡ held M.Memory banks.old memory.old) }
-        ensures lenders { SameLenders banks.old banks.new }
+        ensures lenders { SameLenders M.Memory banks.old memory.old banks.new memory.new }
     {
         match call {
             Call::Take(block) => Ok(Answer::Taken(self.take(banks, memory, block)?)),
@@ -43,7 +43,7 @@ impl Running {
         ensures after { decoders (running_kinds self.now) (held M.Memory banks.new memory.new) ≡ after_by (running_kinds self.now) (held M.Memory banks.old memory.old) (λ ds. after_call ds (calls.Ask decoder request)) }
         ensures rest { Rest (running_kinds self.now) (held M.Memory banks.old memory.old) (held M.Memory banks.new memory.new) }
         ensures refused { OnRefusal result (held M.Memory banks.new memory.new ≡ held M.Memory banks.old memory.old) }
-        ensures lenders { SameLenders banks.old banks.new }
+        ensures lenders { SameLenders M.Memory banks.old memory.old banks.new memory.new }
     {
         match request {
             Request::Set { variable, value } => {

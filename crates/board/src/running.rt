@@ -38,7 +38,7 @@ impl Running {
         ensures after { decoders (running_kinds self.now) (held M.Memory banks.new memory.new) ≡ after_by (running_kinds self.now) (held M.Memory banks.old memory.old) (λ ds. after_records ds (given block.now)) }
         ensures rest { Rest (running_kinds self.now) (held M.Memory banks.old memory.old) (held M.Memory banks.new memory.new) }
         ensures refused { OnRefusal result (held M.Memory banks.new memory.new ≡ held M.Memory banks.old memory.old) }
-        ensures lenders { SameLenders banks.old banks.new }
+        ensures lenders { SameLenders M.Memory banks.old memory.old banks.new memory.new }
     {
         banks.take(self.kinds(), memory, block)
     }
@@ -58,7 +58,7 @@ impl Running {
         ensures after { decoders (running_kinds self.now) (held M.Memory banks.new memory.new) ≡ after_by (running_kinds self.now) (held M.Memory banks.old memory.old) (changed (λ d. lives d (events_of (Set variable value))) decoder.kind decoder.number) }
         ensures rest { Rest (running_kinds self.now) (held M.Memory banks.old memory.old) (held M.Memory banks.new memory.new) }
         ensures refused { OnRefusal result (held M.Memory banks.new memory.new ≡ held M.Memory banks.old memory.old) }
-        ensures lenders { SameLenders banks.old banks.new }
+        ensures lenders { SameLenders M.Memory banks.old memory.old banks.new memory.new }
     {
         banks.set_variable(self.kinds(), memory, decoder, variable, value)
     }
@@ -88,6 +88,7 @@ impl Running {
     ) -> Result<u8, Fault>
         ensures answer { result ≡ answer_of (running_kinds self.now) (seen M.Memory banks.entry memory.old) decoder (variable_in number) }
         ensures same { seen M.Memory banks.entry memory.new ≡ seen M.Memory banks.entry memory.old }
+        ensures lenders { M.Memory.lenders memory.new ≡ M.Memory.lenders memory.old }
     {
         banks.variable(self.kinds(), memory, decoder, number)
     }

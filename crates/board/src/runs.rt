@@ -31,7 +31,7 @@ pub fn run<M: Memory>(
     ensures promised { OnSuccess result (λ b. Promised fits.now calls.now (held M.Memory banks.old memory.old) (running_kinds b) (held M.Memory banks.new memory.new) (take (length fits.now) numbers.new) (take (length calls.now) answers.new)) }
     ensures spare { OnSuccess result (λ _. (drop (length fits.now) numbers.new ≡ drop (length fits.now) numbers.old) × (drop (length calls.now) answers.new ≡ drop (length calls.now) answers.old)) }
     ensures refused { OnRefusal result ((held M.Memory banks.new memory.new ≡ held M.Memory banks.old memory.old) × (numbers.new ≡ numbers.old) × (answers.new ≡ answers.old)) }
-    ensures lenders { SameLenders banks.old banks.new }
+    ensures lenders { SameLenders M.Memory banks.old memory.old banks.new memory.new }
 {
     if numbers.len() < fits.len() || answers.len() < calls.len() {
         return Err(Refusal::PlaceTooShort.into());
@@ -53,7 +53,7 @@ fn fit_all<M: Memory>(
     requires new { fitting_kinds board.old ≡ [] }
     requires room { length fits.now ≤ length numbers.old }
     ensures fitted { FittedAll fits.now (held M.Memory banks.old memory.old) (fitting_kinds board.new) (held M.Memory banks.new memory.new) numbers.old numbers.new }
-    ensures lenders { SameLenders banks.old banks.new }
+    ensures lenders { SameLenders M.Memory banks.old memory.old banks.new memory.new }
 {
     // Tried: a zip with `numbers.iter_mut()`, of which a proof knows afterwards how many numbers there are, and none
     // of them.
@@ -72,7 +72,7 @@ fn perform_all<M: Memory>(
     requires lent { is_lent (running_kinds board.now) (held M.Memory banks.old memory.old) ≡ true }
     requires room { length calls.now ≤ length answers.old }
     ensures performed { PerformedAll calls.now (running_kinds board.now) (held M.Memory banks.old memory.old) (held M.Memory banks.new memory.new) answers.old answers.new }
-    ensures lenders { SameLenders banks.old banks.new }
+    ensures lenders { SameLenders M.Memory banks.old memory.old banks.new memory.new }
 {
     // By its index, as the fittings are and for the same reason. One loop over a closure for both would have to say
     // what the closure

@@ -1,1 +1,2 @@
 pub mod PlaceCells
+pub mod Lying

@@ -4,12 +4,14 @@
 #![tactic(auto)]
 
 pub mod bytes;
+mod laws;
 pub mod memory;
 pub mod slices;
 pub mod strip;
 pub mod words;
 
 pub use crate::bytes::ByteMemory;
+pub use crate::laws::cells_lie;
 pub use crate::memory::Memory;
 pub use crate::slices::{Place, SliceMemory};
 pub use crate::strip::Strip;

@@ -13,6 +13,9 @@ pub trait Memory {
     // What lies outside of the cells in each memory that this one is a part of, the nearest first.
     ghost outside: { Self → List Outside };
 
+    // The slices that the cells stand in, each by the name of the reference that lends it.
+    ghost lenders: { Self → List ℕ };
+
     /// How many cells there are.
     fn count(&self) -> usize
         ensures { result ≡ length (cells self.now) };
@@ -21,13 +24,15 @@ pub trait Memory {
     fn read(&mut self, cell: usize) -> Result<u8, Fault>
         ensures answer { result ≡ cell_read (cells self.old) cell }
         ensures same { cells self.new ≡ cells self.old }
-        ensures outside { outside self.new ≡ outside self.old };
+        ensures outside { outside self.new ≡ outside self.old }
+        ensures lenders { lenders self.new ≡ lenders self.old };
 
     /// Puts the byte into that cell alone: nothing else changes, here or in a memory that this one is a part of.
     fn write(&mut self, cell: usize, byte: u8) -> Result<(), Fault>
         ensures answer { result ≡ cell_write (cells self.old) cell }
         ensures after { cells self.new ≡ slice_set (cells self.old) cell byte }
-        ensures outside { outside self.new ≡ outside self.old };
+        ensures outside { outside self.new ≡ outside self.old }
+        ensures lenders { lenders self.new ≡ lenders self.old };
 
     // Every cell holds a byte.
     ghost fits: { (m : Self) (k : ℕ) → slice_index (cells m) k < 256 };

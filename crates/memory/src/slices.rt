@@ -49,6 +49,8 @@ impl<'a, P: Place<N>, const N: usize> Memory for SliceMemory<'a, P, N> {
 
     ghost outside = { λ m. none_outside (P.Place.cells m.places.now) };
 
+    ghost lenders = { λ m. m.places.ghost_name ∷ [] };
+
     ghost fits = { λ m. P.Place.laws.fit m.places.now };
 
     ghost small = { λ m. places_small P.Place.laws m.places.now m.small };
@@ -63,7 +65,7 @@ impl<'a, P: Place<N>, const N: usize> Memory for SliceMemory<'a, P, N> {
         ensures answer { result ≡ cell_read (P.Place.cells self.old.places.now) cell }
         ensures same { P.Place.cells self.new.places.now ≡ P.Place.cells self.old.places.now }
         ensures outside { none_outside (P.Place.cells self.new.places.now) ≡ none_outside (P.Place.cells self.old.places.now) }
-        ensures lender { self.new.places.ghost_name ≡ self.old.places.ghost_name }
+        ensures lenders { self.new.places.ghost_name ∷ [] ≡ self.old.places.ghost_name ∷ [] }
     {
         let bytes = self.place(cell)?.to_cells();
         Ok(bytes[cell % N])
@@ -74,7 +76,7 @@ impl<'a, P: Place<N>, const N: usize> Memory for SliceMemory<'a, P, N> {
         ensures answer { result ≡ cell_write (P.Place.cells self.old.places.now) cell }
         ensures after { P.Place.cells self.new.places.now ≡ slice_set (P.Place.cells self.old.places.now) cell byte }
         ensures outside { none_outside (P.Place.cells self.new.places.now) ≡ none_outside (P.Place.cells self.old.places.now) }
-        ensures lender { self.new.places.ghost_name ≡ self.old.places.ghost_name }
+        ensures lenders { self.new.places.ghost_name ∷ [] ≡ self.old.places.ghost_name ∷ [] }
     {
         let mut bytes = self.place(cell)?.to_cells();
         bytes[cell % N] = byte;

@@ -57,6 +57,8 @@ impl<M: Memory> Memory for Strip<M> {
 
     ghost outside = { outsides M.Memory.cells M.Memory.outside };
 
+    ghost lenders = { λ s. M.Memory.lenders s.below };
+
     ghost fits = { λ s. strip_fits (M.Memory.cells s.below) s.first s.count (M.Memory.fits s.below) };
 
     ghost small = { λ s. strip_small (M.Memory.cells s.below) s.first s.count (M.Memory.small s.below) };
@@ -70,6 +72,7 @@ impl<M: Memory> Memory for Strip<M> {
         ensures answer { result ≡ cell_read (cells_within M.Memory.cells self.old) cell }
         ensures same { cells_within M.Memory.cells self.new ≡ cells_within M.Memory.cells self.old }
         ensures outside { outsides M.Memory.cells M.Memory.outside self.new ≡ outsides M.Memory.cells M.Memory.outside self.old }
+        ensures lenders { M.Memory.lenders self.new.below ≡ M.Memory.lenders self.old.below }
         ensures below { cells_below M.Memory.cells self.new ≡ cells_below M.Memory.cells self.old }
         ensures first { self.new.first ≡ self.old.first }
         ensures count { self.new.count ≡ self.old.count }
@@ -85,6 +88,7 @@ impl<M: Memory> Memory for Strip<M> {
         ensures answer { result ≡ cell_write (cells_within M.Memory.cells self.old) cell }
         ensures after { cells_within M.Memory.cells self.new ≡ slice_set (cells_within M.Memory.cells self.old) cell byte }
         ensures outside { outsides M.Memory.cells M.Memory.outside self.new ≡ outsides M.Memory.cells M.Memory.outside self.old }
+        ensures lenders { M.Memory.lenders self.new.below ≡ M.Memory.lenders self.old.below }
         ensures below { cells_below M.Memory.cells self.new ≡ below_written M.Memory.cells self.old cell byte }
         ensures first { self.new.first ≡ self.old.first }
         ensures count { self.new.count ≡ self.old.count }

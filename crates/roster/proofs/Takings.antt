@@ -9,6 +9,7 @@ use Rattle.block.specs.Contents.Thing.{fill, power_up, packet}
 use Rattle.block.specs.Reading.{reading, reading_from, carried, fault_of}
 use Rattle.block.proofs.Shapes.{Found, told_as, later, ends_inside}
 use Rattle.block.proofs.Steps.{passing, reads_as, reads_end}
+use Rattle.memory.specs.declared.memory.Memory.{Ghosts}
 use Rattle.bank.specs.declared.kind.Kind.{Kind}
 use Rattle.script.specs.declared.taken.Taken.{Taken}
 use Rattle.script.specs.Decoders.{Decoder}
@@ -46,8 +47,14 @@ counted_fault t ds o (packet p) = noted_fault t o (sent ds p)
 
 -- ---- the lenders
 
-pub lenders_then : {b b' b'' : BanksMut} → SameLenders b b' → SameLenders b' b'' → SameLenders b b''
-lenders_then h k = record { mobiles = k.mobiles ∙ h.mobiles; basics = k.basics ∙ h.basics; extendeds = k.extendeds ∙ h.extendeds }
+module _ {M : Type 0} {m : Ghosts M} {b b' b'' : BanksMut} {x x' x'' : M} where
+  pub lenders_then : SameLenders m b x b' x' → SameLenders m b' x' b'' x'' → SameLenders m b x b'' x''
+  lenders_then h k = record {
+    mobiles = k.mobiles ∙ h.mobiles;
+    basics = k.basics ∙ h.basics;
+    extendeds = k.extendeds ∙ h.extendeds;
+    memory = k.memory ∙ h.memory;
+  }
 
 -- ---- one record more
 

@@ -17,11 +17,12 @@ module _ {M : Type 0} (m : Ghosts M) where
   abbrev pub held : BanksMut → M → Lent
   held b x = lent b.mobiles.now b.basics.now b.extendeds.now (m.cells x) (m.outside x)
 
--- the banks are those of the same lenders
-pub record SameLenders (b b' : BanksMut) : Type 0 where
-  pub mobiles : b'.mobiles.ghost_name ≡ b.mobiles.ghost_name
-  pub basics : b'.basics.ghost_name ≡ b.basics.ghost_name
-  pub extendeds : b'.extendeds.ghost_name ≡ b.extendeds.ghost_name
+  -- the banks and the memory stand in the same lenders' slices
+  pub record SameLenders (b : BanksMut) (x : M) (b' : BanksMut) (x' : M) : Type 0 where
+    pub mobiles : b'.mobiles.ghost_name ≡ b.mobiles.ghost_name
+    pub basics : b'.basics.ghost_name ≡ b.basics.ghost_name
+    pub extendeds : b'.extendeds.ghost_name ≡ b.extendeds.ghost_name
+    pub memory : m.lenders x' ≡ m.lenders x
 
 -- the slot of the decoder that is named, where enough is lent and there is one; else why none can be asked
 abbrev pub Located : List Kind → Lent → DecoderName → Result ℕ Fault → Type 0

@@ -45,6 +45,7 @@ impl<'a> Banks<'a> {
     ) -> Result<u8, Fault>
         ensures answer { result ≡ answer_of kinds.now (seen M.Memory self.entry memory.old) decoder (variable_in number) }
         ensures same { seen M.Memory self.entry memory.new ≡ seen M.Memory self.entry memory.old }
+        ensures lenders { M.Memory.lenders memory.new ≡ M.Memory.lenders memory.old }
     {
         let slot = self.locate(kinds, memory, decoder)?;
         let cv = CvNumber::new(number).ok_or(Refusal::NumberOutOfRange)?;

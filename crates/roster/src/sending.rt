@@ -25,7 +25,7 @@ impl BanksMut<'_> {
         ensures answer { result ≡ sent (decoders kinds.now (held M.Memory self.old memory.old)) packet.now }
         ensures after { decoders kinds.now (held M.Memory self.new memory.new) ≡ map (met (packet_of packet.now)) (decoders kinds.now (held M.Memory self.old memory.old)) }
         ensures rest { Rest kinds.now (held M.Memory self.old memory.old) (held M.Memory self.new memory.new) }
-        ensures lenders { SameLenders self.old self.new }
+        ensures lenders { SameLenders M.Memory self.old memory.old self.new memory.new }
     {
         let told = read(packet)?;
         Ok(self.send_told(kinds, memory, packet, told))
@@ -43,7 +43,7 @@ impl BanksMut<'_> {
         ensures answer { result ≡ some_hears (decoders kinds.now (held M.Memory self.old memory.old)) packet.now }
         ensures after { decoders kinds.now (held M.Memory self.new memory.new) ≡ map (met (packet_of packet.now)) (decoders kinds.now (held M.Memory self.old memory.old)) }
         ensures rest { Rest kinds.now (held M.Memory self.old memory.old) (held M.Memory self.new memory.new) }
-        ensures lenders { SameLenders self.old self.new }
+        ensures lenders { SameLenders M.Memory self.old memory.old self.new memory.new }
     {
         // Only decoders of the kind that the target names can hear it: the other banks are not asked.
         match told.target {
@@ -65,7 +65,7 @@ impl BanksMut<'_> {
         requires { is_lent kinds.now (held M.Memory self.old memory.now) ≡ true }
         ensures after { decoders kinds.now (held M.Memory self.new memory.now) ≡ map (met power_up) (decoders kinds.now (held M.Memory self.old memory.now)) }
         ensures rest { Rest kinds.now (held M.Memory self.old memory.now) (held M.Memory self.new memory.now) }
-        ensures lenders { SameLenders self.old self.new }
+        ensures lenders { SameLenders M.Memory self.old memory.now self.new memory.now }
     {
         power_up(self.mobiles, Kind::Mobile, kinds).unwrap();
         power_up(self.basics, Kind::Basic, kinds).unwrap();

@@ -26,7 +26,7 @@ impl BanksMut<'_> {
         ensures after { decoders kinds.now (held M.Memory self.new memory.new) ≡ after_by kinds.now (held M.Memory self.old memory.old) (changed (λ d. lives d (events_of (Set variable value))) decoder.kind decoder.number) }
         ensures rest { Rest kinds.now (held M.Memory self.old memory.old) (held M.Memory self.new memory.new) }
         ensures refused { OnRefusal result (held M.Memory self.new memory.new ≡ held M.Memory self.old memory.old) }
-        ensures lenders { SameLenders self.old self.new }
+        ensures lenders { SameLenders M.Memory self.old memory.old self.new memory.new }
     {
         let slot = self.shared().locate(kinds, memory, decoder)?;
         let cv = CvNumber::new(variable).ok_or(Refusal::NumberOutOfRange)?;

@@ -29,7 +29,7 @@ impl BanksMut<'_> {
         ensures after { decoders kinds.now (held M.Memory self.new memory.new) ≡ after_by kinds.now (held M.Memory self.old memory.old) (λ ds. after_records ds (given block.now)) }
         ensures rest { Rest kinds.now (held M.Memory self.old memory.old) (held M.Memory self.new memory.new) }
         ensures refused { OnRefusal result (held M.Memory self.new memory.new ≡ held M.Memory self.old memory.old) }
-        ensures lenders { SameLenders self.old self.new }
+        ensures lenders { SameLenders M.Memory self.old memory.old self.new memory.new }
     {
         self.shared().check(kinds, memory)?;
         self.take_records(kinds, memory, block)
@@ -46,7 +46,7 @@ impl BanksMut<'_> {
         ensures after { decoders kinds.now (held M.Memory self.new memory.new) ≡ after_records (decoders kinds.now (held M.Memory self.old memory.old)) (given block.now) }
         ensures rest { Rest kinds.now (held M.Memory self.old memory.old) (held M.Memory self.new memory.new) }
         ensures refused { OnRefusal result (held M.Memory self.new memory.new ≡ held M.Memory self.old memory.old) }
-        ensures lenders { SameLenders self.old self.new }
+        ensures lenders { SameLenders M.Memory self.old memory.old self.new memory.new }
     {
         let mut taken = Taken::default();
         for item in Walk::new(block)? {
@@ -74,7 +74,7 @@ impl BanksMut<'_> {
         ensures counted { taken.new ≡ counted taken.old (decoders kinds.now (held M.Memory self.old memory.old)) carried.now.offset (thing_in carried.now.«record») }
         ensures after { decoders kinds.now (held M.Memory self.new memory.new) ≡ map (met (thing_in carried.now.«record»)) (decoders kinds.now (held M.Memory self.old memory.old)) }
         ensures rest { Rest kinds.now (held M.Memory self.old memory.old) (held M.Memory self.new memory.new) }
-        ensures lenders { SameLenders self.old self.new }
+        ensures lenders { SameLenders M.Memory self.old memory.old self.new memory.new }
     {
         match carried.record {
             Record::Fill => {}

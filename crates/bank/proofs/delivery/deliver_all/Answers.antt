@@ -27,6 +27,7 @@ loop-number-init g c =
       kept = rw front start_kept;
       heard = rw front (sym (count_none _));
       outside = refl;
+      lenders = refl;
     }
 
 -- the slot whose turn it is
@@ -75,6 +76,7 @@ loop-number-preserved g c =
       kept = rw a.moves (hit_kept kept {w = after.vars} s.2 (search rules));
       heard = rw a.moves (byte_more _ _ c.from-heard.ensures (search rules ∙ sym (heard_at turned g.T.Listener.rules c.args.said.target x s.2 (idle-window kept) at r read)) (inv.heard ∙ sym (skip_heard _ _ _ _ _ s.0 s.3)));
       outside = search rules;
+      lenders = search rules;
     }
 
 -- the slots that are left are within, and of other kinds

@@ -21,4 +21,5 @@ invariant-loop-number g l =
       kept : Kept h slots.from (cells l.initial.memory) (cells l.memory);
       heard : l.heard ≡ count_below (hears_at m l.said.target h l.initial.bank (cells l.initial.memory)) slots.from;
       outside : g.M.Memory.outside l.memory ≡ g.M.Memory.outside l.initial.memory;
+      lenders : g.M.Memory.lenders l.memory ≡ g.M.Memory.lenders l.initial.memory;
     }

@@ -9,7 +9,7 @@ use Rattle.board.proofs.Scripts.{fitted_none, fitted_more}
 use Rattle.board.proofs.runs.fit_all.Goals as goal
 
 pub loop-i-init : goal.loop-i-init
-loop-i-init g c = (fitted_none _ _ _ _ c.requires.new, record { mobiles = refl; basics = refl; extendeds = refl })
+loop-i-init g c = (fitted_none _ _ _ _ c.requires.new, record { mobiles = refl; basics = refl; extendeds = refl; memory = refl })
 
 pub loop-i-preserved : goal.loop-i-preserved
 loop-i-preserved g c = (

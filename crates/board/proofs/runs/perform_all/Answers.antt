@@ -8,7 +8,7 @@ use Rattle.board.proofs.Scripts.{performed_none, performed_more}
 use Rattle.board.proofs.runs.perform_all.Goals as goal
 
 pub loop-i-init : goal.loop-i-init
-loop-i-init g c = (performed_none _ _ _ _, record { mobiles = refl; basics = refl; extendeds = refl })
+loop-i-init g c = (performed_none _ _ _ _, record { mobiles = refl; basics = refl; extendeds = refl; memory = refl })
 
 pub loop-i-preserved : goal.loop-i-preserved
 loop-i-preserved g c = (

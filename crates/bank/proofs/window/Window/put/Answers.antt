@@ -12,4 +12,5 @@ returns g c =
       lender = refl;
       cells = wrote_as cells self.slot (c.args.cv.number - 1) (omega arith) c.args.value (c.write.ensures.after ∙ ap (λ k. set cells k c.args.value) c.cell-cell.ensures);
       outside = c.write.ensures.outside;
+      lenders = c.write.ensures.lenders;
     }

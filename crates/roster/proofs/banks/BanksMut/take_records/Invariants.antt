@@ -8,4 +8,4 @@ abbrev pub invariant-loop-item : goal.invariant-loop-item
 invariant-loop-item g l =
     Midway l.kinds (held g.M.Memory l.initial.self l.initial.memory) (held g.M.Memory l.self l.memory) l.block (stands_at l.item-iterator) l.taken
     × (walked l.item-iterator ≡ l.block)
-    × SameLenders l.initial.self l.self
+    × SameLenders g.M.Memory l.initial.self l.initial.memory l.self l.memory
