@@ -8,11 +8,11 @@ fn all_states(on: bool) -> [u8; 256]
     ensures { result ≡ all_states on }
 {
     if on {
-        let mut bits = [255; 256];
+        let mut bits = [255u8; 256];
         bits[0] = 254;
         bits
     } else {
-        [0; 256]
+        [0u8; 256]
     }
 }
 

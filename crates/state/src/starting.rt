@@ -16,7 +16,7 @@ impl MobileState {
             forward: true,
             speed: Speed::Stop,
             functions: Functions { on: [false; 69] },
-            states: BinaryStates { bits: [0; 256] },
+            states: BinaryStates { bits: [0u8; 256] },
             waiting: None,
             reply: None,
         }
