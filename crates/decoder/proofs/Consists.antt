@@ -21,7 +21,8 @@ use Rattle.decoder.specs.Hearing.{is_short, is_consist}
 use Rattle.decoder.specs.Mobiles.{is_speed, sped, with_functions, mobile_noted}
 use Rattle.decoder.specs.Alone.{Own, own, variable, mobile_view, mobile_rules}
 use Rattle.decoder.specs.Going.{GoesAsSent}
-use Rattle.decoder.specs.Laws.{HardResetLeaves, HardResets, SpeedInConsist, Puts, InstructionsPut}
+use Rattle.decoder.specs.Laws.{HardResetLeaves, HardResets, SpeedInConsist, InstructionsPut}
+use Rattle.decoder.specs.Settings.{Puts}
 
 module _ (vars : List ℕ) (l : length vars ≡ 1024) where
   abbrev after19 : List ℕ

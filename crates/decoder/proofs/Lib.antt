@@ -13,3 +13,7 @@ pub mod Gone
 pub mod Showings
 pub mod Grouped
 pub mod Acts
+pub mod Settings
+pub mod Replied
+pub mod StateZero
+pub mod Spans

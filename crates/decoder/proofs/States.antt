@@ -17,10 +17,15 @@ use Rattle.decoder.specs.Laws.{StatesSwitchOne, StatesSwitchTogether}
 bit_at : (bits : List ℕ) (n : ℕ) → 1 ≤ n → n ≤ 2047 → state_at bits n ≡ Some (bit_of (get_or bits (n / 8) 0) (n % 8))
 bit_at bits n low high = grind (arith, nat_tests)
 
-switched_at : (bits : List ℕ) (n : ℕ) (on : Bool) → 1 ≤ n → n ≤ 2047 → kept_after bits n on ≡ set bits (n / 8) (with_bit (get_or bits (n / 8) 0) (n % 8) on)
+pub switched_at :
+    (bits : List ℕ) (n : ℕ) (on : Bool)
+    → 1 ≤ n
+    → n ≤ 2047
+    → kept_after bits n on ≡ set bits (n / 8) (with_bit (get_or bits (n / 8) 0) (n % 8) on)
 switched_at bits n on low high = grind (arith, nat_tests)
 
-not_switched : (bits : List ℕ) (n : ℕ) (on : Bool) → (n < 1) ⊎ (2047 < n) → kept_after bits n on ≡ bits
+pub not_switched :
+    (bits : List ℕ) (n : ℕ) (on : Bool) → (n < 1) ⊎ (2047 < n) → kept_after bits n on ≡ bits
 not_switched bits n on h = ⊎_elim (λ l. grind (arith, nat_tests)) (λ l. grind (arith, nat_tests)) h
 
 none_at : (bits : List ℕ) (n : ℕ) → (n < 1) ⊎ (2047 < n) → state_at bits n ≡ None

@@ -1,5 +1,5 @@
 -- The laws of the rules. Assumes nothing.
-use Rattle.std.proofs.Common.{◌≡◌, ℕ, ◌+◌, ◌-◌, ◌<◌, ◌≤◌, Bool, true, false, cond, not, ◌&&◌, ◌||◌, ltb, leb, ◌⊎◌, List, ◌++◌, length, get_or, take, drop, Some, None, Ok, Option, is_some, refl, ap, ◌∙◌, inl, inr, ⊎_elim, arith}
+use Rattle.std.proofs.Common.{◌≡◌, ℕ, ◌+◌, ◌-◌, ◌<◌, ◌≤◌, Bool, true, false, cond, not, ◌&&◌, ◌||◌, ltb, leb, ◌⊎◌, List, ◌++◌, length, get_or, take, drop, Some, None, Ok, Option, is_some, refl, ap, ◌∙◌, ⊎_elim, arith}
 use Rattle.std.proofs.lemmas.List.{get_or_append_left, get_or-append_right, get_or-take, get_or-drop, get_or-set_same, get_or-set_other, length-take-le, length-append}
 use Rattle.std.proofs.lemmas.Bool.{true≢false, false≢true, cases_lt}
 use Rattle.std.proofs.lemmas.Bool.Decides.{nat_tests}
@@ -21,26 +21,28 @@ use Rattle.decoder.specs.declared.role.Role.{Role}
 use Rattle.decoder.specs.declared.role.Role.TheVariants as role
 use Rattle.decoder.specs.Accesses.{access_of, agrees, result, barred, writes_by, is_write, access_acts, accessed}
 use Rattle.decoder.specs.Accessories.{AccessoryKind, basic_kind, extended_kind}
-use Rattle.decoder.specs.Replies.{answer_of, reply_after}
 use Rattle.decoder.specs.Mobiles.{access_effect, sped, with_functions}
 use Rattle.state.specs.declared.volatile.MobileState.{MobileState}
 use Rattle.state.specs.declared.scale.Scale.TheVariants.{Fourteen, TwentyEight}
 use Rattle.decoder.specs.Alone.{Own, Rules, variable, named, applied, in_role, hearing, obeyed, live, mobile_rules, accessory_rules}
 use Rattle.decoder.specs.Alone.Event.{heard}
-use Rattle.decoder.proofs.Acts.{switches_act, acts_answered}
+use Rattle.decoder.proofs.Acts.{switches_act}
 use Rattle.decoder.proofs.Begun.{powers_up, fits}
 use Rattle.decoder.proofs.Consists.{hard_resets, speed_in_consist, instructions_put}
 use Rattle.decoder.proofs.Gone.{speeds_in_order, speed_acts, functions_told}
 use Rattle.decoder.proofs.Grouped.{groups_name_each}
+use Rattle.decoder.proofs.Spans.{groups_as_called}
 use Rattle.decoder.proofs.Hearings.{hears_its_own, has_an_address, hears_its_kind, hears_all, hears_as_addressed}
 use Rattle.decoder.proofs.Lawfuls.{same_cond}
 use Rattle.decoder.proofs.Same.{packets_wait}
+use Rattle.decoder.proofs.Replied.{mobile_replies, basic_replies, extended_replies}
+use Rattle.decoder.proofs.Settings.{mobile_settings, accessory_settings}
 use Rattle.decoder.proofs.Showings.{others_keep as keeps_others, accessories_show}
 use Rattle.decoder.proofs.States.{states_switch_one, states_switch_together}
-use Rattle.decoder.proofs.Verified.{mobile_verifies, basic_verifies, extended_verifies, mobile_writes, basic_writes, extended_writes}
+use Rattle.decoder.proofs.StateZero.{number_zero_stays_off}
+use Rattle.decoder.proofs.Verified.{mobile_writes, basic_writes, extended_writes}
 use Rattle.decoder.proofs.Sounds.{Apart, Sound, basic_sound, extended_sound}
-use Rattle.decoder.specs.declared.effect.Accessed.{Accessed}
-use Rattle.decoder.specs.Laws.{KindLaws, SilentByOwnVariable, ReplyNeedsAll, ResetIsPowerUp, ByConsistOnlySpeed, GroupsSwitchTheirOwn, is_in_group, LightByGroupOne, OthersKeepFunctions, touches_variables, OthersKeepVariables, Laws}
+use Rattle.decoder.specs.Laws.{KindLaws, ResetIsPowerUp, ByConsistOnlySpeed, GroupsSwitchTheirOwn, is_in_group, LightByGroupOne, OthersKeepFunctions, touches_variables, OthersKeepVariables, Laws}
 
 module _ {X : Type 0} (m : Rules X) where
   unheard : (o : Own X) (bs : List ℕ) → hearing m o (packet_read bs) ≡ None → live m o (heard bs) ≡ o
@@ -132,19 +134,6 @@ accessory_read_only None l w p a vars apart e h = any_stays 512 w p l a vars e h
 accessory_read_only (Some y) None w p a vars apart e h = refl
 accessory_read_only (Some y) (Some b) w p a vars apart e h = absurd (true≢false apart)
 
--- the reply where none are enabled
-silent : (config : ℕ) (a : Option Accessed) (r : Role) (acted : Bool) → bit_of config 3 ≡ false → reply_after config a r acted ≡ None
-silent config a role.Everyone acted e = refl
-silent config a role.Consist acted e = refl
-silent config a role.Own acted e = ap (λ c. cond (c && acted) (Some (answer_of a)) None) e
-
-silent_by_own : SilentByOwnVariable
-silent_by_own = record {
-  mobile = λ o r bs i e. silent _ _ r _ e;
-  basic = λ o r bs i e. silent _ _ r _ e;
-  extended = λ o r bs i e. silent _ _ r _ e;
-}
-
 accessory_laws : {S : Type 0} (k : AccessoryKind S) → Sound k → KindLaws (accessory_rules k)
 accessory_laws k sound = record {
   unheard_keeps = unheard (accessory_rules k);
@@ -152,16 +141,6 @@ accessory_laws k sound = record {
   first_waits = λ o r bs i e f. accessory_first (k.after o.rec.state.shown i) (access_of i) o.rec.state.waiting (packed bs) o.vars (sound.apart _ i) e f;
   read_only = λ o r bs i a e h. accessory_read_only (k.after o.rec.state.shown i) (access_of i) o.rec.state.waiting (packed bs) a o.vars (sound.apart _ i) e h;
 }
-
-replies_need_all : ReplyNeedsAll
-replies_need_all config a role.Everyone acted = inl refl
-replies_need_all config a role.Consist acted = inl refl
-replies_need_all config a role.Own acted = go (bit_of config 3) acted refl refl
-  where
-    go : (c d : Bool) → bit_of config 3 ≡ c → acted ≡ d → (cond (c && d) (Some (answer_of a)) None ≡ None) ⊎ ((role.Own ≡ role.Own) × (c ≡ true) × (d ≡ true))
-    go true true e f = inr (refl, refl, refl)
-    go true false e f = inl refl
-    go false d e f = inl refl
 
 reset_is_power_up : ResetIsPowerUp
 reset_is_power_up o role.Everyone bs n = (refl, refl)
@@ -313,7 +292,9 @@ laws = record {
   mobiles = record { unheard_keeps = unheard mobile_rules; heard_obeys = obeys mobile_rules; first_waits = mobile_first; read_only = mobile_read_only };
   basics = accessory_laws basic_kind basic_sound;
   extendeds = accessory_laws extended_kind extended_sound;
-  replies = replies_need_all;
+  mobile_replies = mobile_replies;
+  basic_replies = basic_replies;
+  extended_replies = extended_replies;
   resets = reset_is_power_up;
   hard_resets = hard_resets;
   consists = only_speed;
@@ -326,7 +307,6 @@ laws = record {
   own = hears_its_own;
   addresses = has_an_address;
   kinds = hears_its_kind;
-  silent = silent_by_own;
   states = states_switch_one;
   states_together = states_switch_together;
   functions_told = functions_told;
@@ -334,9 +314,6 @@ laws = record {
   speed_acts = speed_acts;
   broadcasts = hears_all;
   puts = instructions_put;
-  mobile_verifies = mobile_verifies;
-  basic_verifies = basic_verifies;
-  extended_verifies = extended_verifies;
   mobile_writes = mobile_writes;
   basic_writes = basic_writes;
   extended_writes = extended_writes;
@@ -346,7 +323,11 @@ laws = record {
   accessories = accessories_show;
   packets_wait = packets_wait;
   switches_act = switches_act;
-  acts_answered = acts_answered;
   others_keep_variables = keep_variables;
   as_addressed = hears_as_addressed;
+  mobile_settings = mobile_settings;
+  basic_settings = accessory_settings basic_kind;
+  extended_settings = accessory_settings extended_kind;
+  state_zero = number_zero_stays_off;
+  group_spans = groups_as_called;
 }

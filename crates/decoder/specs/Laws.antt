@@ -1,5 +1,5 @@
 -- What the rules come to, in the words of the track.
-use Rattle.std.specs.Prelude.{◌≡◌, ℕ, ◌+◌, ◌-◌, ◌%◌, ◌<◌, ◌≤◌, Bool, true, false, cond, not, ◌&&◌, ◌⊎◌, List, length, Some, None, Ok, Option, ◌≢◌, nat_le, nat_lt, ◌==◌, slice_index_or}
+use Rattle.std.specs.Prelude.{◌≡◌, ℕ, ◌+◌, ◌-◌, ◌%◌, ◌<◌, ◌≤◌, Bool, true, false, cond, not, ◌&&◌, ◌⊎◌, List, length, Some, None, Ok, ◌≢◌, nat_le, nat_lt, ◌==◌, slice_index_or}
 use Rattle.packet.specs.declared.instruction.FunctionGroup.{FunctionGroup}
 use Rattle.packet.specs.declared.instruction.FunctionGroup.TheVariants.{F0ToF4, F5ToF8, F9ToF12, F13ToF20, F21ToF28, F29ToF36, F37ToF44, F45ToF52, F53ToF60, F61ToF68}
 use Rattle.packet.specs.declared.instruction.Instruction.{Instruction}
@@ -10,7 +10,6 @@ use Rattle.packet.specs.Groups.{lowest_of, width_of}
 use Rattle.format.specs.Reading.{packet_of, packet_read}
 use Rattle.state.specs.declared.scale.Scale.TheVariants.{Fourteen, TwentyEight, OneTwentySix}
 use Rattle.state.specs.declared.step.Step.{Step}
-use Rattle.state.specs.declared.volatile.Reply.TheVariants.{Acknowledgment}
 use Rattle.state.specs.Bits.{bit_of, with_bit}
 use Rattle.state.specs.Groups.{switched, function_at}
 use Rattle.state.specs.Kept.{kept_after, state_at}
@@ -24,18 +23,20 @@ use Rattle.decoder.specs.declared.role.Address.TheVariants as address
 use Rattle.decoder.specs.declared.role.Role.{Role}
 use Rattle.decoder.specs.declared.role.Role.TheVariants as role
 use Rattle.decoder.specs.declared.effect.Access.{Access}
-use Rattle.decoder.specs.declared.effect.Accessed.{Accessed}
 use Rattle.decoder.specs.Accesses.{access_of, is_write}
 use Rattle.decoder.specs.Fresh.{Basic, Extended}
 use Rattle.decoder.specs.Fitted.{mobile_fitted, basic_fitted, extended_fitted}
 use Rattle.decoder.specs.Hearing.{own_address, consist_of}
-use Rattle.decoder.specs.Replies.{reply_after}
 use Rattle.decoder.specs.Mobiles.{is_speed, mobile_noted}
 use Rattle.decoder.specs.Alone.{Own, Rules, own, variable, hearing, live, mobile_view, mobile_rules, basic_rules, extended_rules}
 use Rattle.decoder.specs.Alone.Event.{heard}
-use Rattle.decoder.specs.LongForms.{RepliesEnabled, PacketsWait, VerifiesTell, WritesTake}
+use Rattle.decoder.specs.LongForms.{PacketsWait, WritesTake}
 use Rattle.decoder.specs.Beginnings.{PowersUp, Fits}
-use Rattle.decoder.specs.Going.{SpeedsInOrder, TakesSpeed, GoesAsSent, SpeedActs}
+use Rattle.decoder.specs.Going.{SpeedsInOrder, GoesAsSent, SpeedActs}
+use Rattle.decoder.specs.Settings.{Puts, MobileWaitEnds, AccessoryWaitEnds, SettingsLeave}
+use Rattle.decoder.specs.Replying.{MobileActs, BasicActs, ExtendedActs, RepliesNeedAll}
+use Rattle.decoder.specs.StateZero.{NumberZeroStaysOff}
+use Rattle.decoder.specs.Spans.{GroupsAsCalled}
 
 -- of a kind of decoder
 pub record KindLaws {X : Type 0} (m : Rules X) : Type 0 where
@@ -47,18 +48,6 @@ pub record KindLaws {X : Type 0} (m : Rules X) : Type 0 where
   pub first_waits : (o : Own X) (r : Role) (bs : List ℕ) (i : Instruction) → is_write i ≡ true → matches (m.waiting o.rec) (packed bs) ≡ false → (m.obeys o r bs i).vars ≡ o.vars
   -- a long form that names the seventh or the eighth of the kind's own variables changes no variable
   pub read_only : (o : Own X) (r : Role) (bs : List ℕ) (i : Instruction) (a : Access) → access_of i ≡ Some a → (a.cv.number ≡ m.offset + 7) ⊎ (a.cv.number ≡ m.offset + 8) → (m.obeys o r bs i).vars ≡ o.vars
-
--- no decoder replies while bit 3 of the 29th of its kind's own variables is zero
-pub record SilentByOwnVariable : Type 0 where
-  pub mobile : (o : Own Mobile) (r : Role) (bs : List ℕ) (i : Instruction) → bit_of (variable o.vars (mobile_rules.offset + 29)) 3 ≡ false → (mobile_rules.obeys o r bs i).rec.state.reply ≡ None
-  pub basic : (o : Own Basic) (r : Role) (bs : List ℕ) (i : Instruction) → bit_of (variable o.vars (basic_rules.offset + 29)) 3 ≡ false → (basic_rules.obeys o r bs i).rec.state.reply ≡ None
-  pub extended : (o : Own Extended) (r : Role) (bs : List ℕ) (i : Instruction) → bit_of (variable o.vars (extended_rules.offset + 29)) 3 ≡ false → (extended_rules.obeys o r bs i).rec.state.reply ≡ None
-
--- the reply is none unless the packet came to the own address, replies were enabled, and the instruction acted
-abbrev pub ReplyNeedsAll : Type 0
-ReplyNeedsAll =
-    (config : ℕ) (a : Option Accessed) (r : Role) (acted : Bool)
-    → (reply_after config a r acted ≡ None) ⊎ ((r ≡ role.Own) × (bit_of config 3 ≡ true) × (acted ≡ true))
 
 -- a reset brings exactly the volatile part to its power-up state; the reply to it is set after that
 abbrev pub ResetIsPowerUp : Type 0
@@ -225,11 +214,6 @@ pub record HearsAll : Type 0 where
   pub basic_others : (o : Own Basic) (a : ℕ) → a ≢ o.rec.address → a ≢ 511 → basic_rules.hears o (target.Basic a) ≡ None
   pub extended_others : (o : Own Extended) (a : ℕ) → a ≢ o.rec.address → a ≢ 2047 → extended_rules.hears o (target.Extended a) ≡ None
 
--- only variable n changes, to x
-pub record Puts (o after : Own Mobile) (n x : ℕ) : Type 0 where
-  pub value : variable after.vars n ≡ x
-  pub others : (k : ℕ) → 1 ≤ k → k ≢ n → variable after.vars k ≡ variable o.vars k
-
 -- instructions that put something into a variable of their own: 19 gets the consist address, with bit 7 where it is
 -- reversed, 23 and 24 the adjustments, and bit 5 of 29 says whether the long address counts
 pub record InstructionsPut : Type 0 where
@@ -303,45 +287,13 @@ pub record SwitchesAct : Type 0 where
   pub short_state : (o : Own Mobile) (r : Role) (bs : List ℕ) (n : ℕ) (on : Bool) → r ≢ role.Consist → 1 ≤ n → (mobile_rules.obeys o r bs (BinaryStateShort on n)).rec.state.states.bits ≡ kept_after o.rec.state.states.bits n on
   pub long_state : (o : Own Mobile) (r : Role) (bs : List ℕ) (n : ℕ) (on : Bool) → r ≢ role.Consist → 1 ≤ n → (mobile_rules.obeys o r bs (BinaryStateLong on n)).rec.state.states.bits ≡ kept_after o.rec.state.states.bits n on
 
--- the instructions that a mobile decoder always takes by its own address
-abbrev pub always_acts : Instruction → Bool
-always_acts NoOperation = false
-always_acts Reset = true
-always_acts HardReset = true
-always_acts (AdvancedAddressing on) = true
-always_acts AcknowledgmentRequest = true
-always_acts (Consist reversed address) = true
-always_acts (Speed forward code) = false
-always_acts (Speed126 forward code) = false
-always_acts (Functions group bits) = true
-always_acts (BinaryStateShort on number) = true
-always_acts (BinaryStateLong on number) = false
-always_acts (AccelerationAdjustment value) = true
-always_acts (DecelerationAdjustment value) = true
-always_acts (VerifyByte cv value) = false
-always_acts (WriteByte cv value) = false
-always_acts (VerifyBit cv bit value) = false
-always_acts (WriteBit cv bit value) = false
-always_acts (Output number on) = false
-always_acts (Aspect number) = false
-
--- while replies are enabled, these are acknowledged, and so are speed that acts, a binary state that is kept, an output and
--- an aspect; a state above those is not, nor, by an accessory decoder, what is for another kind
-pub record ActsAnswered : Type 0 where
-  pub always : (o : Own Mobile) (bs : List ℕ) (i : Instruction) → RepliesEnabled mobile_rules o → always_acts i ≡ true → (mobile_rules.obeys o role.Own bs i).rec.state.reply ≡ Some Acknowledgment
-  pub speed : (o : Own Mobile) (bs : List ℕ) (i : Instruction) → RepliesEnabled mobile_rules o → TakesSpeed o role.Own → is_speed i ≡ true → (mobile_rules.obeys o role.Own bs i).rec.state.reply ≡ Some Acknowledgment
-  pub state : (o : Own Mobile) (bs : List ℕ) (n : ℕ) (on : Bool) → RepliesEnabled mobile_rules o → n ≤ 2047 → (mobile_rules.obeys o role.Own bs (BinaryStateLong on n)).rec.state.reply ≡ Some Acknowledgment
-  pub no_state : (o : Own Mobile) (bs : List ℕ) (n : ℕ) (on : Bool) → 2048 ≤ n → (mobile_rules.obeys o role.Own bs (BinaryStateLong on n)).rec.state.reply ≡ None
-  pub output : (o : Own Basic) (bs : List ℕ) (n : ℕ) (on : Bool) → RepliesEnabled basic_rules o → (basic_rules.obeys o role.Own bs (Output n on)).rec.state.reply ≡ Some Acknowledgment
-  pub aspect : (o : Own Extended) (bs : List ℕ) (n : ℕ) → RepliesEnabled extended_rules o → (extended_rules.obeys o role.Own bs (Aspect n)).rec.state.reply ≡ Some Acknowledgment
-  pub basic_others : (o : Own Basic) (bs : List ℕ) (i : Instruction) → access_of i ≡ None → ((n : ℕ) (on : Bool) → i ≢ Output n on) → (basic_rules.obeys o role.Own bs i).rec.state.reply ≡ None
-  pub extended_others : (o : Own Extended) (bs : List ℕ) (i : Instruction) → access_of i ≡ None → ((n : ℕ) → i ≢ Aspect n) → (extended_rules.obeys o role.Own bs i).rec.state.reply ≡ None
-
 pub record Laws : Type 0 where
   pub mobiles : KindLaws mobile_rules
   pub basics : KindLaws basic_rules
   pub extendeds : KindLaws extended_rules
-  pub replies : ReplyNeedsAll
+  pub mobile_replies : RepliesNeedAll mobile_rules (λ x. x.state.reply) MobileActs
+  pub basic_replies : RepliesNeedAll basic_rules (λ x. x.state.reply) BasicActs
+  pub extended_replies : RepliesNeedAll extended_rules (λ x. x.state.reply) ExtendedActs
   pub resets : ResetIsPowerUp
   pub hard_resets : HardResets
   pub consists : ByConsistOnlySpeed
@@ -354,7 +306,6 @@ pub record Laws : Type 0 where
   pub own : HearsItsOwn
   pub addresses : HasAnAddress
   pub kinds : HearsItsKind
-  pub silent : SilentByOwnVariable
   pub states : StatesSwitchOne
   pub states_together : StatesSwitchTogether
   pub functions_told : FunctionsTold
@@ -362,18 +313,19 @@ pub record Laws : Type 0 where
   pub speed_acts : SpeedActs
   pub broadcasts : HearsAll
   pub puts : InstructionsPut
-  pub mobile_verifies : VerifiesTell mobile_rules (λ x. x.state.reply)
-  pub basic_verifies : VerifiesTell basic_rules (λ x. x.state.reply)
-  pub extended_verifies : VerifiesTell extended_rules (λ x. x.state.reply)
-  pub mobile_writes : WritesTake mobile_rules (λ x. x.state.reply)
-  pub basic_writes : WritesTake basic_rules (λ x. x.state.reply)
-  pub extended_writes : WritesTake extended_rules (λ x. x.state.reply)
+  pub mobile_writes : WritesTake mobile_rules
+  pub basic_writes : WritesTake basic_rules
+  pub extended_writes : WritesTake extended_rules
   pub power_up : PowersUp
   pub fits : Fits
   pub others_keep : OthersKeep
   pub accessories : AccessoriesShow
   pub packets_wait : PacketsWait
   pub switches_act : SwitchesAct
-  pub acts_answered : ActsAnswered
   pub others_keep_variables : OthersKeepVariables
   pub as_addressed : HearsAsAddressed
+  pub mobile_settings : SettingsLeave mobile_rules MobileWaitEnds
+  pub basic_settings : SettingsLeave basic_rules AccessoryWaitEnds
+  pub extended_settings : SettingsLeave extended_rules AccessoryWaitEnds
+  pub state_zero : NumberZeroStaysOff
+  pub group_spans : GroupsAsCalled

@@ -11,4 +11,8 @@ pub mod Examples
 pub mod LongForms
 pub mod Beginnings
 pub mod Going
+pub mod Settings
+pub mod Replying
+pub mod StateZero
+pub mod Spans
 pub mod Laws

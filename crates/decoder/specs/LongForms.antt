@@ -1,10 +1,8 @@
--- What verifies and writes come to, in the words of the track.
-use Rattle.std.specs.Prelude.{◌≡◌, ℕ, ◌+◌, ◌-◌, ◌%◌, ◌≤◌, Bool, true, false, cond, List, length, take, drop, replicate, Some, None, Option, ◌≢◌, ◌==◌}
+-- What writes come to, in the words of the track.
+use Rattle.std.specs.Prelude.{◌≡◌, ℕ, ◌+◌, ◌-◌, ◌%◌, ◌≤◌, Bool, true, false, cond, List, length, take, drop, replicate, Some, None, ◌≢◌, ◌==◌}
 use Rattle.packet.specs.declared.cv.CvNumber.{CvNumber}
 use Rattle.packet.specs.declared.instruction.Instruction.{Instruction}
-use Rattle.packet.specs.declared.instruction.Instruction.TheVariants.{VerifyByte, WriteByte, VerifyBit, WriteBit}
-use Rattle.state.specs.declared.volatile.Reply.{Reply}
-use Rattle.state.specs.declared.volatile.Reply.TheVariants.{Acknowledgment, Value}
+use Rattle.packet.specs.declared.instruction.Instruction.TheVariants.{WriteByte, WriteBit}
 use Rattle.state.specs.Bits.{bit_of}
 use Rattle.state.specs.Packing.{packed, matches}
 use Rattle.decoder.specs.declared.role.Role.{Role}
@@ -19,22 +17,6 @@ pub record PacketsWait : Type 0 where
   pub itself : (bs : List ℕ) → matches (Some (packed bs)) (packed bs) ≡ true
   pub no_other : (cs bs : List ℕ) → length cs ≤ 6 → length bs ≤ 6 → matches (Some (packed cs)) (packed bs) ≡ true → cs ≡ bs
 
--- replies are enabled by bit 3 of the 29th of the kind's own variables
-abbrev pub RepliesEnabled : {X : Type 0} → Rules X → Own X → Type 0
-RepliesEnabled m o = bit_of (variable o.vars (m.offset + 29)) 3 ≡ true
-
--- of a kind of decoder, whose latest reply is `latest`. A verify by the own address, while replies are enabled, is
--- answered exactly where the variable is as it says: of a byte by the variable's value, of a bit by an acknowledgment.
--- A bit is named by the lowest three bits of its number
-pub record VerifiesTell {X : Type 0} (m : Rules X) (latest : X → Option Reply) : Type 0 where
-  pub byte : (o : Own X) (bs : List ℕ) (cv : CvNumber) (value : ℕ) → RepliesEnabled m o → variable o.vars cv.number ≡ value → latest (m.obeys o role.Own bs (VerifyByte cv value)).rec ≡ Some (Value value)
-  pub other_byte : (o : Own X) (bs : List ℕ) (cv : CvNumber) (value : ℕ) → variable o.vars cv.number ≢ value → latest (m.obeys o role.Own bs (VerifyByte cv value)).rec ≡ None
-  pub bit : (o : Own X) (bs : List ℕ) (cv : CvNumber) (b : ℕ) (on : Bool) → RepliesEnabled m o → bit_of (variable o.vars cv.number) (b % 8) ≡ on → latest (m.obeys o role.Own bs (VerifyBit cv b on)).rec ≡ Some Acknowledgment
-  pub other_bit : (o : Own X) (bs : List ℕ) (cv : CvNumber) (b : ℕ) (on : Bool) → bit_of (variable o.vars cv.number) (b % 8) ≢ on → latest (m.obeys o role.Own bs (VerifyBit cv b on)).rec ≡ None
-  -- and whoever is asked, no variable changes
-  pub keeps_byte : (o : Own X) (r : Role) (bs : List ℕ) (cv : CvNumber) (value : ℕ) → (m.obeys o r bs (VerifyByte cv value)).vars ≡ o.vars
-  pub keeps_bit : (o : Own X) (r : Role) (bs : List ℕ) (cv : CvNumber) (b : ℕ) (on : Bool) → (m.obeys o r bs (VerifyBit cv b on)).vars ≡ o.vars
-
 -- packets write this variable: it is not the seventh nor the eighth of the kind's own
 abbrev pub Writable : {X : Type 0} → Rules X → CvNumber → Type 0
 Writable m cv = (cv.number ≢ m.offset + 7) × (cv.number ≢ m.offset + 8)
@@ -45,16 +27,13 @@ pub record Repeats {X : Type 0} (m : Rules X) (o : Own X) (r : Role) (bs : List 
   pub counts : r ≢ role.Consist
   pub waits : matches (m.waiting o.rec) (packed bs) ≡ true
 
--- of a kind of decoder. A write waits at first, and is not answered; at its repetition nothing waits, the variable has the
--- byte, or the bit is as it says and every other bit as it was, and that is acknowledged
-pub record WritesTake {X : Type 0} (m : Rules X) (latest : X → Option Reply) : Type 0 where
+-- of a kind of decoder. A write waits at first; at its repetition nothing waits, and the variable
+-- has the byte, or the bit is as it says and every other bit as it was
+pub record WritesTake {X : Type 0} (m : Rules X) : Type 0 where
   pub first : (o : Own X) (r : Role) (bs : List ℕ) (i : Instruction) → is_write i ≡ true → r ≢ role.Consist → matches (m.waiting o.rec) (packed bs) ≡ false → m.waiting (m.obeys o r bs i).rec ≡ Some (packed bs)
   pub over : (o : Own X) (r : Role) (bs : List ℕ) (i : Instruction) → matches (m.waiting o.rec) (packed bs) ≡ true → m.waiting (m.obeys o r bs i).rec ≡ None
   pub byte : (o : Own X) (r : Role) (bs : List ℕ) (cv : CvNumber) (value : ℕ) → Repeats m o r bs → Writable m cv → variable (m.obeys o r bs (WriteByte cv value)).vars cv.number ≡ value
   pub bit : (o : Own X) (r : Role) (bs : List ℕ) (cv : CvNumber) (b k : ℕ) (on : Bool) → Repeats m o r bs → Writable m cv → bit_of (variable (m.obeys o r bs (WriteBit cv b on)).vars cv.number) k ≡ cond (b % 8 == k) on (bit_of (variable o.vars cv.number) k)
-  pub silent : (o : Own X) (bs : List ℕ) (i : Instruction) → is_write i ≡ true → matches (m.waiting o.rec) (packed bs) ≡ false → latest (m.obeys o role.Own bs i).rec ≡ None
-  pub acknowledged_byte : (o : Own X) (bs : List ℕ) (cv : CvNumber) (value : ℕ) → RepliesEnabled m o → matches (m.waiting o.rec) (packed bs) ≡ true → Writable m cv → latest (m.obeys o role.Own bs (WriteByte cv value)).rec ≡ Some Acknowledgment
-  pub acknowledged_bit : (o : Own X) (bs : List ℕ) (cv : CvNumber) (b : ℕ) (on : Bool) → RepliesEnabled m o → matches (m.waiting o.rec) (packed bs) ≡ true → Writable m cv → latest (m.obeys o role.Own bs (WriteBit cv b on)).rec ≡ Some Acknowledgment
   -- and no write, first or repeated, changes another variable
   pub others_byte : (o : Own X) (r : Role) (bs : List ℕ) (cv : CvNumber) (value n : ℕ) → 1 ≤ n → n ≢ cv.number → variable (m.obeys o r bs (WriteByte cv value)).vars n ≡ variable o.vars n
   pub others_bit : (o : Own X) (r : Role) (bs : List ℕ) (cv : CvNumber) (b : ℕ) (on : Bool) (n : ℕ) → 1 ≤ n → n ≢ cv.number → variable (m.obeys o r bs (WriteBit cv b on)).vars n ≡ variable o.vars n
