@@ -1,9 +1,9 @@
 -- The laws of the counts of a block. Assumes nothing.
-use Rattle.std.proofs.Common.{◌≡◌, ℕ, zero, suc, ◌+◌, ◌<◌, ◌≤◌, ◌⊎◌, ⊎_elim, Bool, true, false, cond, ◌||◌, List, [], ◌∷◌, ◌++◌, map, length, is_err, is_some, Some, None, Ok, Err, Option, option_map, Result, sym, refl, ap, ◌∙◌, arith}
-use Rattle.std.proofs.lemmas.Bool.{true≢false, false≢true, cond-true, cond-false}
+use Rattle.std.proofs.Common.{◌≡◌, ℕ, suc, ◌+◌, ◌<◌, ◌≤◌, ◌⊎◌, ⊎_elim, Bool, true, false, cond}
+use Rattle.std.proofs.Common.{List, [], ◌∷◌, map, length, is_err, is_some, Some, None, Ok, Err}
+use Rattle.std.proofs.Common.{Option, Result, sym, refl, ap, ◌∙◌, arith}
+use Rattle.std.proofs.lemmas.Bool.{true≢false, cond-true, cond-false}
 use Rattle.std.proofs.lemmas.Bool.Decides.{nat_tests}
-use Rattle.std.proofs.lemmas.Option.{none-some}
-use Rattle.std.specs.Option.{unwrap_or}
 use Rattle.fault.specs.declared.fault.Fault.{Fault}
 use Rattle.fault.specs.declared.refusal.Refusal.{Refusal}
 use Rattle.fault.specs.declared.refusal.Refusal.TheVariants.{BlockLength}
@@ -18,21 +18,19 @@ use Rattle.block.specs.Reading.{reading, carried}
 use Rattle.block.specs.Summing.{summed, surveyed}
 use Rattle.block.specs.Laws.{packets_among, packets_of}
 use Rattle.block.proofs.Agreements.{laws as blocks}
-use Rattle.bank.specs.declared.kind.Kind.{Kind}
-use Rattle.bank.specs.Kinds.{same_kind}
-use Rattle.decoder.specs.Alone.{Own, Rules, Event, hearing, obeyed, mobile_rules, basic_rules, extended_rules}
+use Rattle.decoder.specs.Alone.{Own, Rules, hearing, obeyed}
+use Rattle.decoder.specs.Alone.{mobile_rules, basic_rules, extended_rules}
 use Rattle.decoder.specs.Alone.Event.{heard}
-use Rattle.script.specs.declared.name.DecoderName.{DecoderName}
 use Rattle.decoder.specs.declared.role.Role.{Role}
 use Rattle.script.specs.declared.taken.Taken.{Taken}
 use Rattle.script.specs.declared.answer.Answer.{Answer}
 use Rattle.script.specs.declared.answer.Answer.TheVariants as answer
-use Rattle.script.specs.Decoders.{Decoder, kind_of, lives, hears, answered, of_kind, decoder_of}
+use Rattle.script.specs.Decoders.{Decoder, lives, hears, answered}
 use Rattle.script.specs.Decoders.Decoder.{mobile, basic, extended}
 use Rattle.script.specs.Calls.{met, some_hears, outcome, sent, earlier, noted, counts, nothing_taken, taken_from, taking, given}
-use Rattle.script.specs.Promises.{in_records}
-use Rattle.script.specs.Laws.{refused_among, refused_first, first_refused, heard_among, CountsAgree, CountsAddUp}
-use Rattle.script.proofs.Alones.{under_met}
+use Rattle.script.specs.Laws.{refused_among, refused_first, first_refused, CountsAgree, CountsAddUp}
+use Rattle.script.specs.Records.{heard_among, unheard_among}
+use Rattle.script.proofs.Placed.{counts_heard, counts_unheard}
 
 -- ---- one packet more
 
@@ -86,76 +84,6 @@ counts_first t ds ((o, fill) ∷ rs) = counts_first t (map (met fill) ds) rs
 counts_first t ds ((o, power_up) ∷ rs) = counts_first t (map (met power_up) ds) rs
 counts_first t ds ((o, packet p) ∷ rs) = counts_first (noted t o (sent ds p)) (map (met (packet p)) ds) rs ∙ noted_first t o (first_refused rs) (packet_read p) (some_hears ds p)
 
--- ---- what is heard
-
--- nobody hears a packet that is refused
-deaf : (d : Decoder) (p : List ℕ) (e : Refusal) → packet_read p ≡ Err e → hears d p ≡ false
-unfolding hears
-deaf (mobile o) p e h = ap (λ r. is_some (hearing mobile_rules o r)) h
-deaf (basic o) p e h = ap (λ r. is_some (hearing basic_rules o r)) h
-deaf (extended o) p e h = ap (λ r. is_some (hearing extended_rules o r)) h
-
--- one packet, by what it reads as and whether the decoder hears it
-heard_alone : (t : Taken) (o : ℕ) (p : List ℕ) (es : List Event) (r : Told) (h : Bool) → ((e : Refusal) → r ≡ Err e → h ≡ false) → (noted t o (outcome r (h || false))).heard + heard_among es ≡ t.heard + heard_among (cond h (heard p ∷ []) [] ++ es)
-heard_alone t o p es (Ok x) true f = omega arith
-heard_alone t o p es (Ok x) false f = refl
-heard_alone t o p es (Err e) true f = absurd (true≢false (f e refl))
-heard_alone t o p es (Err e) false f = refl
-
-heard_least : (t : Taken) (o : ℕ) (p : List ℕ) (es : List Event) (r : Told) (h some : Bool) → ((e : Refusal) → r ≡ Err e → h ≡ false) → (h ≡ true → some ≡ true) → t.heard + heard_among (cond h (heard p ∷ []) [] ++ es) ≤ (noted t o (outcome r some)).heard + heard_among es
-heard_least t o p es (Ok x) true true f g = omega arith
-heard_least t o p es (Ok x) true false f g = absurd (false≢true (g refl))
-heard_least t o p es (Ok x) false true f g = omega arith
-heard_least t o p es (Ok x) false false f g = omega arith
-heard_least t o p es (Err e) true some f g = absurd (true≢false (f e refl))
-heard_least t o p es (Err e) false some f g = omega arith
-
-counts_alone : (t : Taken) (d : Decoder) (rs : List (ℕ × Thing)) → (counts t (d ∷ []) rs).heard ≡ t.heard + heard_among (in_records d rs)
-counts_alone t d [] = omega arith
-counts_alone t d ((o, fill) ∷ rs) = counts_alone t (met fill d) rs
-counts_alone t d ((o, power_up) ∷ rs) = counts_alone t (met power_up d) rs
-counts_alone t d ((o, packet p) ∷ rs) = counts_alone (noted t o (sent (d ∷ []) p)) (met (packet p) d) rs ∙ heard_alone t o p (in_records (met (packet p) d) rs) (packet_read p) (hears d p) (deaf d p)
-
--- a packet that one decoder hears some decoder hears
-or_left : (a b : Bool) → a ≡ true → (a || b) ≡ true
-or_left true b e = refl
-or_left false b e = absurd (false≢true e)
-
-or_right : (a b : Bool) → b ≡ true → (a || b) ≡ true
-or_right true b e = refl
-or_right false b e = e
-
--- by the test whether the first is of the kind
-by_kind : (c : Bool) (a b : Option Decoder) (d : Decoder) (P : Type 0) → (a ≡ Some d → P) → (b ≡ Some d → P) → cond c a b ≡ Some d → P
-by_kind true a b d P f g e = f e
-by_kind false a b d P f g e = g e
-
-some_heard : (k : Kind) (j : ℕ) (ds : List Decoder) (d : Decoder) (p : List ℕ) → of_kind kind_of k j ds ≡ Some d → hears d p ≡ true → some_hears ds p ≡ true
-some_heard k j [] d p e h = absurd (none-some _ e)
-some_heard k zero (x ∷ ds) d p e h =
-    by_kind (same_kind k (kind_of x)) (Some x) _ d _
-    (λ f. or_left (hears x p) (some_hears ds p) (ap (λ y. hears y p) (ap (λ o. unwrap_or o x) f) ∙ h))
-    (λ f. or_right (hears x p) (some_hears ds p) (some_heard k zero ds d p f h))
-    e
-some_heard k (suc j) (x ∷ ds) d p e h =
-    by_kind (same_kind k (kind_of x)) _ _ d _
-    (λ f. or_right (hears x p) (some_hears ds p) (some_heard k j ds d p f h))
-    (λ f. or_right (hears x p) (some_hears ds p) (some_heard k (suc j) ds d p f h))
-    e
-
-module _ (n : DecoderName) where
-  after_one : (d : Decoder) (ds : List Decoder) (t : Thing) → decoder_of n ds ≡ Some d → decoder_of n (map (met t) ds) ≡ Some (met t d)
-  after_one d ds t e = under_met n t ds ∙ ap (option_map (met t)) e
-
-  counts_each : (t : Taken) (d : Decoder) (ds : List Decoder) (rs : List (ℕ × Thing)) → decoder_of n ds ≡ Some d → t.heard + heard_among (in_records d rs) ≤ (counts t ds rs).heard
-  counts_each t d ds [] e = omega arith
-  counts_each t d ds ((o, fill) ∷ rs) e = counts_each t (met fill d) (map (met fill) ds) rs (after_one d ds fill e)
-  counts_each t d ds ((o, power_up) ∷ rs) e = counts_each t (met power_up d) (map (met power_up) ds) rs (after_one d ds power_up e)
-  counts_each t d ds ((o, packet p) ∷ rs) e =
-      let rest = counts_each (noted t o (sent ds p)) (met (packet p) d) (map (met (packet p)) ds) rs (after_one d ds (packet p) e) in
-      let here = heard_least t o p (in_records (met (packet p) d) rs) (packet_read p) (hears d p) (some_hears ds p) (deaf d p) (some_heard n.kind n.number ds d p e) in
-      omega (arith, rest, here)
-
 -- ---- a block
 
 -- what is answered
@@ -164,11 +92,14 @@ answer_or x (Ok y) = y
 answer_or x (Err e) = x
 
 -- what is not refused has a good length
-good : {A : Type 0} (c : Bool) (x y : A) (e : Fault) → cond c (Ok x) (Err e) ≡ Ok y → (c ≡ true) × (y ≡ x)
+pub good :
+    {A : Type 0} (c : Bool) (x y : A) (e : Fault)
+    → cond c (Ok x) (Err e) ≡ Ok y
+    → (c ≡ true) × (y ≡ x)
 good true x y e f = (refl, sym (ap (answer_or x) f))
 good false x y e f = let z : ◌≡◌ {A = ℕ} 0 1 = cc in absurd (omega arith)
 
-given_all : (b : List ℕ) → is_block_length (length b) ≡ true → given b ≡ carried (reading b)
+pub given_all : (b : List ℕ) → is_block_length (length b) ≡ true → given b ≡ carried (reading b)
 given_all b e = cond-true _ _ _ e
 
 is_long : (n : ℕ) → 1 ≤ n → n ≤ 512 → is_block_length n ≡ true
@@ -180,17 +111,25 @@ is_not n h = ⊎_elim (λ e. grind (arith, nat_tests)) (λ l. grind (arith, nat_
 refused : (ds : List Decoder) (b : List ℕ) → (length b ≡ 0) ⊎ (512 < length b) → (surveyed b ≡ Err (fault_at BlockLength 0)) × (taking ds b ≡ Err (fault_at BlockLength 0)) × (given b ≡ [])
 refused ds b h = let e = is_not (length b) h in (cond-false _ _ _ e, cond-false _ _ _ e, cond-false _ _ _ e)
 
-agree : (ds : List Decoder) (b : List ℕ) (s : Survey) → surveyed b ≡ Ok s → (t : Taken) × (taking ds b ≡ Ok t) × CountsAgree b t s
+agree :
+    (ds : List Decoder) (b : List ℕ) (s : Survey)
+    → surveyed b ≡ Ok s
+    → (t : Taken) × (taking ds b ≡ Ok t) × CountsAgree ds b t s
 unfolding first_of
 agree ds b s e =
     let is = good (is_block_length (length b)) (summed (length b) (reading b)) s (fault_at BlockLength 0) e in
     let all = counts_all nothing_taken ds (carried (reading b)) in
+    let given_is = given_all b is.0 in
+    let heard = counts_heard nothing_taken ds (carried (reading b)) in
+    let unheard = counts_unheard nothing_taken ds (carried (reading b)) in
     let carries : s.packets ≡ length (packets_of b) = (blocks.counts b s e).0 in
     let refused = counts_refused nothing_taken ds (carried (reading b)) in (
       taken_from ds b,
       cond-true _ _ _ is.0,
       record {
         packets = omega (arith, all, carries);
+        heard = omega (arith, heard) ∙ ap (heard_among ds) (sym given_is);
+        unheard = omega (arith, unheard) ∙ ap (unheard_among ds) (sym given_is);
         refused = omega (arith, refused);
         first = counts_first nothing_taken ds (carried (reading b));
         fault = ap (λ (z : Survey). z.fault) (sym is.1);
@@ -232,25 +171,7 @@ laws = record {
   refused = refused;
   surveys = λ b low high. (summed (length b) (reading b), cond-true _ _ _ (is_long (length b) low high));
   agree = agree;
-  alone = alone;
-  each = each;
   unheard = unheard;
   idle = idle;
   answers = λ ds b t e. taken_back (taking ds b.now) t e;
 }
-  where
-    alone : (d : Decoder) (b : List ℕ) (t : Taken) → taking (d ∷ []) b ≡ Ok t → t.heard ≡ heard_among (in_records d (given b))
-    alone d b t e =
-        let is = good (is_block_length (length b)) (taken_from (d ∷ []) b) t (fault_at BlockLength 0) e in
-        let h = counts_alone nothing_taken d (carried (reading b)) in
-        let same : heard_among (in_records d (given b)) ≡ heard_among (in_records d (carried (reading b))) = ap (λ rs. heard_among (in_records d rs)) (given_all b is.0) in
-        let heard : t.heard ≡ (counts nothing_taken (d ∷ []) (carried (reading b))).heard = ap (λ (z : Taken). z.heard) is.1 in
-        omega (arith, h, same, heard)
-
-    each : (ds : List Decoder) (n : DecoderName) (d : Decoder) (b : List ℕ) (t : Taken) → decoder_of n ds ≡ Some d → taking ds b ≡ Ok t → heard_among (in_records d (given b)) ≤ t.heard
-    each ds n d b t there e =
-        let is = good (is_block_length (length b)) (taken_from ds b) t (fault_at BlockLength 0) e in
-        let h = counts_each n nothing_taken d ds (carried (reading b)) there in
-        let same : heard_among (in_records d (given b)) ≡ heard_among (in_records d (carried (reading b))) = ap (λ rs. heard_among (in_records d rs)) (given_all b is.0) in
-        let heard : t.heard ≡ (counts nothing_taken ds (carried (reading b))).heard = ap (λ (z : Taken). z.heard) is.1 in
-        omega (arith, h, same, heard)

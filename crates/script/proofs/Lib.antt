@@ -5,7 +5,9 @@ pub mod Alones
 pub mod Persists
 pub mod Numbers
 pub mod Runs
+pub mod Placed
 pub mod Counted
+pub mod Meetings
 pub mod Requested
 pub mod Addressed
 pub mod Lendings

@@ -76,6 +76,11 @@ requests_answered = record {
   binary_state = λ o n on e. ap (λ r. answered answer.BinaryState (in_range r)) e;
   no_binary_state = λ o n h. ap (λ r. answered answer.BinaryState (in_range r)) (no_state o.rec.state.states.bits n h);
   not_mobile = not_mobile;
+  state = record {
+    of_mobile = λ o. (o.rec.state, refl, refl);
+    of_basic = λ o. (o.rec.state, refl, refl);
+    of_extended = λ o. (o.rec.state, refl, refl);
+  };
 }
   where
     told : (fs : List Bool) (n : ℕ) → n ≤ 68 → function_at fs n ≡ Some (get_or fs n false)

@@ -13,15 +13,13 @@ use Rattle.block.specs.Contents.Thing.{fill, power_up, packet}
 use Rattle.block.specs.Reading.{reading, carried}
 use Rattle.block.specs.Summing.{surveyed}
 use Rattle.block.specs.Laws.{packets_of}
-use Rattle.decoder.specs.Alone.{Event}
-use Rattle.decoder.specs.Alone.Event.{heard, powered, setting}
-use Rattle.script.specs.declared.name.DecoderName.{DecoderName}
+use Rattle.decoder.specs.Alone.Event.{heard}
 use Rattle.script.specs.declared.taken.Taken.{Taken}
 use Rattle.script.specs.declared.call.Call.TheVariants.{Take}
 use Rattle.script.specs.declared.answer.Answer.TheVariants as answer
-use Rattle.script.specs.Decoders.{Decoder, lives, hears, decoder_of}
+use Rattle.script.specs.Decoders.{Decoder, lives, hears}
 use Rattle.script.specs.Calls.{taking, given, answer_to}
-use Rattle.script.specs.Promises.{in_records}
+use Rattle.script.specs.Records.{heard_among, unheard_among}
 
 -- how many of the packets are refused
 abbrev pub refused_among : List (List ℕ) → ℕ
@@ -40,17 +38,13 @@ first_refused ((o, fill) ∷ rs) = first_refused rs
 first_refused ((o, power_up) ∷ rs) = first_refused rs
 first_refused ((o, packet p) ∷ rs) = refused_first (packet_read p) o (first_refused rs)
 
--- how many of the events are packets that are heard
-abbrev pub heard_among : List Event → ℕ
-heard_among [] = 0
-heard_among (heard p ∷ es) = suc (heard_among es)
-heard_among (powered ∷ es) = heard_among es
-heard_among (setting cv x ∷ es) = heard_among es
-
--- what a block that is taken answers, t, and what a survey of it does, s
-pub record CountsAgree (b : List ℕ) (t : Taken) (s : Survey) : Type 0 where
+-- what the decoders answer of a block that is taken, t, and what a survey of it does, s
+pub record CountsAgree (ds : List Decoder) (b : List ℕ) (t : Taken) (s : Survey) : Type 0 where
   -- each packet that the block carries is heard, unheard or refused
   pub packets : t.heard + t.unheard + t.refused ≡ s.packets
+  -- heard are those that some decoder's own events have, unheard the accepted ones that none has
+  pub heard : t.heard ≡ heard_among ds (given b)
+  pub unheard : t.unheard ≡ unheard_among ds (given b)
   -- as many are refused as do not read, whatever decoders there are, and the first of them is told
   pub refused : t.refused ≡ refused_among (packets_of b)
   pub first : t.refusal ≡ first_refused (carried (reading b))
@@ -61,10 +55,10 @@ pub record CountsAddUp : Type 0 where
   pub refused : (ds : List Decoder) (b : List ℕ) → (length b ≡ 0) ⊎ (512 < length b) → (surveyed b ≡ Err (fault_at BlockLength 0)) × (taking ds b ≡ Err (fault_at BlockLength 0)) × (given b ≡ [])
   -- any other is surveyed, and where it is, it is taken
   pub surveys : (b : List ℕ) → 1 ≤ length b → length b ≤ 512 → (s : Survey) × (surveyed b ≡ Ok s)
-  pub agree : (ds : List Decoder) (b : List ℕ) (s : Survey) → surveyed b ≡ Ok s → (t : Taken) × (taking ds b ≡ Ok t) × CountsAgree b t s
-  -- what one decoder hears of a block is heard, and nothing else is where there is only that one
-  pub alone : (d : Decoder) (b : List ℕ) (t : Taken) → taking (d ∷ []) b ≡ Ok t → t.heard ≡ heard_among (in_records d (given b))
-  pub each : (ds : List Decoder) (n : DecoderName) (d : Decoder) (b : List ℕ) (t : Taken) → decoder_of n ds ≡ Some d → taking ds b ≡ Ok t → heard_among (in_records d (given b)) ≤ t.heard
+  pub agree :
+      (ds : List Decoder) (b : List ℕ) (s : Survey)
+      → surveyed b ≡ Ok s
+      → (t : Taken) × (taking ds b ≡ Ok t) × CountsAgree ds b t s
   -- what it does not hear leaves it as it was, and nobody hears an idle packet
   pub unheard : (d : Decoder) (bs : List ℕ) → hears d bs ≡ false → lives d (heard bs ∷ []) ≡ d
   pub idle : (d : Decoder) (bs : List ℕ) (i : Instruction) → packet_read bs ≡ Ok (packet_of Idle i) → hears d bs ≡ false

@@ -3,6 +3,7 @@ pub mod Boards
 pub mod Fittings
 pub mod Calls
 pub mod Promises
+pub mod Records
 pub mod Laws
 pub mod Asked
 pub mod Addresses

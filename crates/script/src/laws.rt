@@ -2,8 +2,10 @@ ghost use Rattle.script.specs.Addresses.{FittingsAnswered};
 ghost use Rattle.script.specs.Asked.{RequestsAnswered};
 ghost use Rattle.script.specs.Laws.{CountsAddUp};
 ghost use Rattle.script.specs.Lending.{LendingsAnswered};
+ghost use Rattle.script.specs.Records.{RecordsMet};
 
-/// As many packets of a block are heard, unheard and refused together as it carries, and what a decoder hears is heard.
+/// As many packets of a block are heard, unheard and refused together as it carries, and heard are
+/// those that some decoder hears.
 pub fn counts_add_up()
     ensures { CountsAddUp }
 {}
@@ -21,4 +23,9 @@ pub fn fittings_answered()
 /// A board that is lent too little refuses, and nothing changes; else it answers by its decoders.
 pub fn lendings_answered()
     ensures { LendingsAnswered }
+{}
+
+/// Every decoder meets each power-up of a block in its place, and each packet that it then hears.
+pub fn records_met()
+    ensures { RecordsMet }
 {}

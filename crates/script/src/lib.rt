@@ -13,6 +13,8 @@ mod taken;
 pub use crate::answer::{Answer, DecoderState};
 pub use crate::call::{Call, Request};
 pub use crate::fit::Fit;
-pub use crate::laws::{counts_add_up, fittings_answered, lendings_answered, requests_answered};
+pub use crate::laws::{
+    counts_add_up, fittings_answered, lendings_answered, records_met, requests_answered,
+};
 pub use crate::name::DecoderName;
 pub use crate::taken::Taken;
