@@ -129,14 +129,18 @@ unfolding some_met
 no_power_up [] = refl
 no_power_up (d ∷ ds) = no_power_up ds
 
-a_packet : (ds : List Decoder) (p : List ℕ) → some_met ds (packet p) ≡ some_hears ds p
-unfolding some_met
-a_packet [] p = refl
-a_packet (d ∷ ds) p = ap₂ (λ a b. a || b) (go (hears d p)) (a_packet ds p)
+-- its own events have a packet where it hears it
+has_packet : (d : Decoder) (p : List ℕ) → list_any is_packet (meets d (packet p)) ≡ hears d p
+has_packet d p = go (hears d p)
   where
     go : (b : Bool) → list_any is_packet (cond b (heard p ∷ []) []) ≡ b
     go true = refl
     go false = refl
+
+a_packet : (ds : List Decoder) (p : List ℕ) → some_met ds (packet p) ≡ some_hears ds p
+unfolding some_met
+a_packet [] p = refl
+a_packet (d ∷ ds) p = ap₂ (λ a b. a || b) (has_packet d p) (a_packet ds p)
 
 -- nobody hears a packet that is refused
 pub deaf : (d : Decoder) (p : List ℕ) (e : Refusal) → packet_read p ≡ Err e → hears d p ≡ false
