@@ -1,5 +1,6 @@
 pub mod Backs
 pub mod Forths
+pub mod Nowhere
 pub mod Placed
 pub mod Refused
 pub mod Returns

@@ -5,18 +5,19 @@ use Rattle.packet.specs.Parity.{parity}
 use Rattle.std.proofs.lemmas.Bool.{cases_lt, cases_Bool, cond-true, cond-false, ne_eqb, lt-ltb}
 use Rattle.std.proofs.lemmas.Bool.Decides.{nat_tests}
 use Rattle.std.specs.List.{AllByRecursion}
+use Rattle.std.specs.Result.{result_err}
 use Rattle.fault.specs.declared.refusal.Refusal.{Refusal}
 use Rattle.fault.specs.declared.refusal.Refusal.TheVariants.{PacketLength, ErrorByte, ReservedAddress, AdvancedFormat, IdleForm, NoInstruction, AccessoryHead}
 use Rattle.packet.specs.declared.target.Target.{Target}
 use Rattle.packet.specs.declared.target.Target.TheVariants.{Broadcast, Short, Long, Basic, Extended}
 use Rattle.format.specs.Reading.{Asked, Told, told, by_first, mobile, cv_access, basic, extended, basic_address, extended_address, is_extended_head, idle, long, accessory, addressed, front, packet_read}
-use Rattle.format.specs.Refusing.{Cause, within, byte, first_cause, refusal_in, mobile_causes, basic_causes, extended_causes, accessory_causes, address_causes, causes}
+use Rattle.format.specs.Refusing.{Cause, within, byte, first_cause, mobile_causes, basic_causes, extended_causes, accessory_causes, address_causes, causes}
 
 abbrev refusal_of : Asked → Option Refusal
 refusal_of (Ok i) = None
 refusal_of (Err e) = Some e
 
-told_refused : (t : Target) (r : Asked) → refusal_in (told t r) ≡ refusal_of r
+told_refused : (t : Target) (r : Asked) → result_err (told t r) ≡ refusal_of r
 told_refused t (Ok i) = refl
 told_refused t (Err e) = refl
 
@@ -75,11 +76,11 @@ extended_refused (b ∷ c ∷ d ∷ f ∷ bs) h = grind (arith, nat_tests)
 extended_refused _ h = grind (arith, nat_tests)
 
 abbrev Addressed : List ℕ → Type 0
-Addressed xs = refusal_in (addressed xs) ≡ first_cause (address_causes xs)
+Addressed xs = result_err (addressed xs) ≡ first_cause (address_causes xs)
 
 -- the answer is r for a target, and the causes are those of r
 joined : (xs : List ℕ) (t : Target) (r : Asked) (cs : List Cause) → addressed xs ≡ told t r → refusal_of r ≡ first_cause cs → address_causes xs ≡ cs → Addressed xs
-joined xs t r cs e f g = ap refusal_in e ∙ told_refused t r ∙ f ∙ sym (ap first_cause g)
+joined xs t r cs e f g = ap result_err e ∙ told_refused t r ∙ f ∙ sym (ap first_cause g)
 
 broadcast_told : (b : ℕ) (bs : List ℕ) → b < 1 → addressed (b ∷ bs) ≡ told Broadcast (mobile bs)
 unfolding addressed
@@ -134,7 +135,7 @@ accessory_refused b d bs a l m = ⊎_elim is_basic (λ n. ⊎_elim (is_extended 
 
     is_neither : leb 0x80 d ≡ false → is_extended_head d ≡ false → Addressed (b ∷ d ∷ bs)
     is_neither n x =
-        ap refusal_in (accessory-told b d bs l m ∙ cond-false (leb 0x80 d) _ _ n ∙ cond-false (is_extended_head d) _ _ x)
+        ap result_err (accessory-told b d bs l m ∙ cond-false (leb 0x80 d) _ _ n ∙ cond-false (is_extended_head d) _ _ x)
         ∙ sym (ap first_cause (accessory-causes b d bs l m ∙ cond-false (leb 0x80 d) _ _ n ∙ cond-false (is_extended_head d) _ _ x))
 
 -- E8 to FF
@@ -148,11 +149,11 @@ last_causes xs = (within 0xe8 0xfc (byte 0 xs), ReservedAddress) ∷ (within 0xf
 last_causes_lem : (b : ℕ) (bs : List ℕ) → 0xe8 ≤ b → address_causes (b ∷ bs) ≡ last_causes (b ∷ bs)
 last_causes_lem b bs l = grind (arith, nat_tests)
 
-last_same : (b d : ℕ) (bs : List ℕ) → b < 256 → 0xe8 ≤ b → refusal_in (cond (ltb b 0xfd) (Err ReservedAddress) (cond (ltb b 0xff) (Err AdvancedFormat) (idle (d ∷ bs)))) ≡ first_cause (last_causes (b ∷ d ∷ bs))
+last_same : (b d : ℕ) (bs : List ℕ) → b < 256 → 0xe8 ≤ b → result_err (cond (ltb b 0xfd) (Err ReservedAddress) (cond (ltb b 0xff) (Err AdvancedFormat) (idle (d ∷ bs)))) ≡ first_cause (last_causes (b ∷ d ∷ bs))
 last_same b d bs h l = grind (arith, nat_tests)
 
 last_refused : (b d : ℕ) (bs : List ℕ) → b < 256 → 0xe8 ≤ b → Addressed (b ∷ d ∷ bs)
-last_refused b d bs h l = ap refusal_in (last_told b d bs l) ∙ last_same b d bs h l ∙ sym (ap first_cause (last_causes_lem b (d ∷ bs) l))
+last_refused b d bs h l = ap result_err (last_told b d bs l) ∙ last_same b d bs h l ∙ sym (ap first_cause (last_causes_lem b (d ∷ bs) l))
 
 addressed_refused : (b d : ℕ) (bs : List ℕ) → AllByRecursion (λ x. x < 256) (b ∷ d ∷ bs) → Addressed (b ∷ d ∷ bs)
 addressed_refused b d bs a =
@@ -168,12 +169,12 @@ two_up _ l a = absurd (omega arith)
 -- n bytes, whose XOR is x, with the answer r and the cause o of the bytes before the last
 outer :
     (n x : ℕ) (r : Told) (o : Option Refusal)
-    → (3 ≤ n → refusal_in r ≡ o)
-    → refusal_in (cond (ltb n 3) (Err PacketLength) (cond (ltb 6 n) (Err PacketLength) (cond (eqb x 0) r (Err ErrorByte))))
+    → (3 ≤ n → result_err r ≡ o)
+    → result_err (cond (ltb n 3) (Err PacketLength) (cond (ltb 6 n) (Err PacketLength) (cond (eqb x 0) r (Err ErrorByte))))
     ≡ cond (not (within 3 6 n)) (Some PacketLength) (cond (not (eqb x 0)) (Some ErrorByte) o)
 outer n x r o h = ⊎_elim (λ l. grind (arith, nat_tests)) (λ l. let e = h l in grind (arith, nat_tests)) (cases_lt n 3)
 
-pub reading_refused : (bs : List ℕ) → AllByRecursion (λ x. x < 256) bs → refusal_in (packet_read bs) ≡ first_cause (causes bs)
+pub reading_refused : (bs : List ℕ) → AllByRecursion (λ x. x < 256) bs → result_err (packet_read bs) ≡ first_cause (causes bs)
 reading_refused bs a =
     outer (length bs) (parity bs) (addressed (front bs)) (first_cause (address_causes (front bs)))
     (λ l. two_up (front bs) (simp length-take (omega arith)) (All-take (λ x. x < 256) (length bs - 1) bs a))

@@ -1,6 +1,7 @@
 -- What cannot be written is refused as a field or an instruction that does not fit, or for want of place. Assumes nothing.
 use Rattle.std.proofs.Common.{◌≡◌, ℕ, List, [], Ok, Err, Result, sym, refl, ◌∙◌, arith}
 use Rattle.std.proofs.lemmas.Bool.Decides.{nat_tests}
+use Rattle.fault.specs.declared.fault.Fault.{Fault}
 use Rattle.fault.specs.declared.refusal.Refusal.{Refusal}
 use Rattle.fault.specs.declared.refusal.Refusal.TheVariants.{FieldOutOfRange}
 use Rattle.packet.specs.declared.target.Target.{Target}
@@ -10,6 +11,7 @@ use Rattle.packet.specs.declared.instruction.FunctionGroup.{FunctionGroup}
 use Rattle.format.specs.Writing.{Coded, Form, form_of, function_bytes, head_of, body_of, joined, encoded, answer}
 use Rattle.format.specs.Writing.Form.{nothing, mobile_only, anyone, output, aspect}
 use Rattle.format.specs.Laws.{IsWhy, Unwritten}
+use Rattle.format.proofs.Nowhere.{placeless}
 
 head_unfit : (t : Target) (f : Form) (e : Refusal) → head_of t f ≡ Err e → e ≡ FieldOutOfRange
 head_unfit t f e h = grind (arith, nat_tests)
@@ -43,9 +45,16 @@ unfit_lem : (t : Target) (i : Instruction) (e : Refusal) → encoded t i ≡ Err
 unfolding encoded
 unfit_lem t i e h = joined_unfit (head_of t (form_of i)) (body_of t (form_of i)) (head_unfit t (form_of i)) (body_unfit t (form_of i) (form_unfit i)) e h
 
-answer_refused : (x : Coded) (place : List ℕ) (e : Refusal) → ((d : Refusal) → x ≡ Err d → d ≡ FieldOutOfRange) → answer x place ≡ Err e → IsWhy x place e
-answer_refused (Err d) place e h a = let q = h d refl in grind arith
-answer_refused (Ok bs) place e h a = grind (arith, nat_tests)
+answer_refused :
+    (x : Coded) (place : List ℕ) (f : Fault)
+    → ((d : Refusal) → x ≡ Err d → d ≡ FieldOutOfRange)
+    → placeless (answer x place) ≡ Err f
+    → IsWhy x place f
+answer_refused (Err d) place f h a = let q = h d refl in grind arith
+answer_refused (Ok bs) place f h a = grind (arith, nat_tests)
 
-pub unwritten : (t : Target) (i : Instruction) (place : List ℕ) (r : Result ℕ Refusal) → r ≡ answer (encoded t i) place → Unwritten t i place r
-unwritten t i place r q e a = answer_refused (encoded t i) place e (unfit_lem t i) (sym q ∙ a)
+pub unwritten :
+    (t : Target) (i : Instruction) (place : List ℕ) (r : Result ℕ Fault)
+    → r ≡ placeless (answer (encoded t i) place)
+    → Unwritten t i place r
+unwritten t i place r q f a = answer_refused (encoded t i) place f (unfit_lem t i) (sym q ∙ a)

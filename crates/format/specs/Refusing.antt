@@ -1,9 +1,9 @@
 -- Why a packet is refused, in the format's own words: the causes in their order, each a test of the bytes.
-use Rattle.std.specs.Prelude.{ℕ, ◌%◌, Bool, true, cond, not, ◌&&◌, ◌||◌, List, [], ◌∷◌, length, drop, Some, None, Ok, Err, Option, ◌==◌, nat_le, nat_lt, slice_index}
+use Rattle.std.specs.Prelude.{ℕ, ◌%◌, Bool, true, cond, not, ◌&&◌, ◌||◌, List, [], ◌∷◌, length, drop, Some, None, Option, ◌==◌, nat_le, nat_lt, slice_index}
 use Rattle.fault.specs.declared.refusal.Refusal.{Refusal}
 use Rattle.fault.specs.declared.refusal.Refusal.TheVariants.{PacketLength, ErrorByte, ReservedAddress, AdvancedFormat, IdleForm, NoInstruction, ReservedInstruction, InstructionLength, AccessoryHead}
 use Rattle.packet.specs.Parity.{parity}
-use Rattle.format.specs.Reading.{Told, front, is_extended_head}
+use Rattle.format.specs.Reading.{front, is_extended_head}
 
 abbrev pub within : ℕ → ℕ → ℕ → Bool
 within from to b = nat_le from b && nat_le b to
@@ -99,8 +99,3 @@ address_causes xs =
 abbrev pub causes : List ℕ → List Cause
 causes bs =
     (not (within 3 6 (length bs)), PacketLength) ∷ (not (parity bs == 0), ErrorByte) ∷ address_causes (front bs)
-
--- the refusal in an answer
-abbrev pub refusal_in : Told → Option Refusal
-refusal_in (Ok p) = None
-refusal_in (Err e) = Some e

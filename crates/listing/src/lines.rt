@@ -37,8 +37,9 @@ impl Tally {
                 let words = InWords(packet);
                 println!(rt; "{offset:>3}  {text:<17}  {words}")?;
             }
-            Err(refusal) => {
+            Err(fault) => {
                 self.refused = self.refused.saturating_add(1);
+                let refusal = fault.refusal;
                 let number = refusal.number();
                 println!(rt; "{offset:>3}  {text:<17}  refused {number} {refusal}")?;
             }

@@ -1,11 +1,14 @@
 ghost use Rattle.std.specs.Prelude.{◌≡◌, ◌≤◌};
+ghost use Rattle.std.specs.Option.{option_map};
+ghost use Rattle.std.specs.Result.{result_err, result_map_both};
+ghost use Rattle.fault.specs.Places.{nowhere};
 ghost use Rattle.format.specs.Reading.{told as told_of, long as long_of, idle as idle_of, by_address, addressed as addressed_of, packet_read};
 ghost use Rattle.format.specs.Laws.{WrittenBack, AllAccepted};
-ghost use Rattle.format.specs.Refusing.{refusal_in, first_cause, causes};
+ghost use Rattle.format.specs.Refusing.{first_cause, causes};
 
 use crate::accessory::accessory;
 use crate::mobile::mobile;
-use fault::Refusal;
+use fault::{Fault, Refusal};
 use packet::{Instruction, Packet, Target, parity};
 
 /// A target with the instruction that comes after it.
@@ -80,12 +83,13 @@ fn decode(packet: &[u8]) -> Result<Packet, Refusal>
     addressed(&packet[..packet.len() - 1])
 }
 
-/// What a packet says, or the first cause for which it is refused. What it accepts is exactly what `write` writes.
-pub fn read(packet: &[u8]) -> Result<Packet, Refusal>
-    ensures value { result ≡ packet_read packet.now }
+/// What a packet says, or the first cause for which it is refused, with the offset 0. What it accepts is exactly what
+/// `write` writes.
+pub fn read(packet: &[u8]) -> Result<Packet, Fault>
+    ensures value { result ≡ result_map_both (λ p. p) nowhere (packet_read packet.now) }
     ensures written_back { WrittenBack packet.now result }
     ensures all_accepted { AllAccepted packet.now result }
-    ensures refused { refusal_in result ≡ first_cause (causes packet.now) }
+    ensures refused { result_err result ≡ option_map nowhere (first_cause (causes packet.now)) }
 {
-    decode(packet)
+    decode(packet).map_err(Fault::from)
 }

@@ -7,7 +7,8 @@ use Rattle.packet.specs.declared.instruction.Instruction.{Instruction}
 use Rattle.packet.specs.declared.packet.Packet.{Packet}
 use Rattle.packet.specs.declared.target.Target.{Target}
 use Rattle.packet.specs.declared.target.Target.TheVariants as target
-use Rattle.format.specs.Reading.{packet_read}
+use Rattle.format.specs.Reading.{Told, packet_read}
+use Rattle.format.proofs.Nowhere.{placeless}
 use Rattle.block.specs.Contents.Thing.{fill, power_up, packet}
 use Rattle.memory.specs.Cells.{Outside}
 use Rattle.decoder.specs.declared.records.Mobile as mobile-record
@@ -72,8 +73,21 @@ map_same : (f : Decoder → Decoder) → ((d : Decoder) → f d ≡ d) → (ds :
 map_same f e [] = refl
 map_same f e (d ∷ ds) = ap₂ ◌∷◌ (e d) (map_same f e ds)
 
-pub refused_met : (bs : List ℕ) (r : Refusal) → packet_read bs ≡ Err r → (ds : List Decoder) → map (met (packet bs)) ds ≡ ds
-refused_met bs r e = map_same (met (packet bs)) (λ d. ap (λ b. lives d (cond b (heard bs ∷ []) [])) (deaf bs r e d) ∙ lives_none d)
+unread_met :
+    (bs : List ℕ) (t : Told) (f : Fault)
+    → packet_read bs ≡ t
+    → Err f ≡ placeless t
+    → (ds : List Decoder) → map (met (packet bs)) ds ≡ ds
+unread_met bs (Ok q) f e is = cc
+unread_met bs (Err r) f e is =
+    let unheard = λ (d : Decoder). ap (λ b. lives d (cond b (heard bs ∷ []) [])) (deaf bs r e d) in
+    map_same (met (packet bs)) (λ d. unheard d ∙ lives_none d)
+
+pub refused_met :
+    (bs : List ℕ) (f : Fault)
+    → Err f ≡ placeless (packet_read bs)
+    → (ds : List Decoder) → map (met (packet bs)) ds ≡ ds
+refused_met bs f = unread_met bs (packet_read bs) f refl
 
 pub fill_met : (ds : List Decoder) → map (met fill) ds ≡ ds
 fill_met = map_same (met fill) lives_none

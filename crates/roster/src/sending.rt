@@ -27,8 +27,10 @@ impl BanksMut<'_> {
         ensures rest { Rest kinds.now (held M.Memory self.old memory.old) (held M.Memory self.new memory.new) }
         ensures lenders { SameLenders M.Memory self.old memory.old self.new memory.new }
     {
-        let told = read(packet)?;
-        Ok(self.send_told(kinds, memory, packet, told))
+        match read(packet) {
+            Ok(told) => Ok(self.send_told(kinds, memory, packet, told)),
+            Err(fault) => Err(fault.refusal),
+        }
     }
 
     fn send_told<M: Memory>(

@@ -21,8 +21,8 @@ fn said(heap: Global, bytes: &[u8]) -> Result<String, AllocError> {
     match read(bytes) {
         Ok(packet) if is_written_back(packet, bytes) => InWords(packet).to_string(heap),
         Ok(_) => String::from_str(heap, "something that is written otherwise"),
-        Err(refusal) => {
-            let number = refusal.number();
+        Err(fault) => {
+            let number = fault.refusal.number();
             format!(in heap; "refused {number}")
         }
     }

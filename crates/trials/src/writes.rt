@@ -15,7 +15,7 @@ fn refused(rt: &impl Abort, target: Target, instruction: Instruction) {
             },
             &mut place
         ),
-        Err(Refusal::FieldOutOfRange)
+        Err(Refusal::FieldOutOfRange.into())
     );
     assert_eq!(rt; place, [9; 6]);
 }
@@ -145,13 +145,19 @@ fn the_place_keeps_its_rest(rt: HostRuntime) -> Result<(), Fail> {
         ..setting
     };
     let mut short = [9u8; 3];
-    assert_eq!(rt; write(reset, &mut short), Err(Refusal::PlaceTooShort));
+    assert_eq!(rt;
+        write(reset, &mut short),
+        Err(Refusal::PlaceTooShort.into())
+    );
     assert_eq!(rt; short, [9; 3]);
     let outside = Packet {
         target: Target::Short { address: 0 },
         ..reset
     };
-    assert_eq!(rt; write(outside, &mut []), Err(Refusal::FieldOutOfRange));
+    assert_eq!(rt;
+        write(outside, &mut []),
+        Err(Refusal::FieldOutOfRange.into())
+    );
     Ok(())
 }
 

@@ -1,4 +1,6 @@
 ghost use Rattle.std.specs.Prelude.{◌≡◌, ◌+◌, ◌≤◌, ◌++◌, length, drop, Ok};
+ghost use Rattle.std.specs.Result.{result_map_both};
+ghost use Rattle.fault.specs.Places.{nowhere};
 ghost use Rattle.packet.specs.Parity.{sealed};
 ghost use Rattle.format.specs.Laws.{ReadsBack, Unwritten};
 ghost use Rattle.format.specs.Writing.{encoded, answer, after};
@@ -6,7 +8,7 @@ ghost use Rattle.format.specs.Writing.{encoded, answer, after};
 use crate::body::body;
 use crate::bytes::Bytes;
 use crate::head::head;
-use fault::Refusal;
+use fault::{Fault, Refusal};
 use packet::{Packet, parity};
 
 /// Puts both parts and the error byte at the front of the place.
@@ -46,12 +48,13 @@ fn encode(packet: Packet, place: &mut [u8]) -> Result<usize, Refusal>
 }
 
 /// Puts the packet at the front of the place and answers its length; the rest of the place stays. A refusal leaves all
-/// of it. What is written reads as itself.
-pub fn write(packet: Packet, place: &mut [u8]) -> Result<usize, Refusal>
-    ensures answered { result ≡ answer (encoded packet.target packet.instruction) place.old }
+/// of it, and has the offset 0. What is written reads as itself.
+pub fn write(packet: Packet, place: &mut [u8]) -> Result<usize, Fault>
+    ensures answered { result ≡ result_map_both (λ n. n) nowhere
+        (answer (encoded packet.target packet.instruction) place.old) }
     ensures placed { place.new ≡ after (encoded packet.target packet.instruction) place.old }
     ensures reads_back { ReadsBack packet.target packet.instruction result place.new }
     ensures refused { Unwritten packet.target packet.instruction place.old result }
 {
-    encode(packet, place)
+    encode(packet, place).map_err(Fault::from)
 }
