@@ -12,7 +12,7 @@ pub mod walk;
 
 pub use crate::laws::blocks_agree;
 pub use crate::packets::packet_at;
-pub use crate::records::{Carried, Record, record_at};
+pub use crate::records::{Carried, Record};
 pub use crate::summary::Survey;
 pub use crate::surveying::survey;
 pub use crate::walk::Walk;

@@ -36,8 +36,8 @@ fn first_nonzero(block: &[u8], offset: usize) -> Option<usize>
 /// The record that begins at `offset`, or none where `offset` is at the block's end or past it.
 ///
 /// It refuses an unknown kind, a body that is cut off, and a byte after fill that is not zero.
-/// It does not look at the block's length: a block that is too long is read as any other.
-pub fn record_at<'a>(block: &'a [u8], offset: usize) -> Result<Option<Carried<'a>>, Fault>
+/// It does not look at the block's length: a walk has refused a block that is too long.
+pub(crate) fn record_at<'a>(block: &'a [u8], offset: usize) -> Result<Option<Carried<'a>>, Fault>
     ensures is { found result ≡ record_at block.now offset }
     ensures within { Within block.now offset result }
 {
