@@ -18,7 +18,7 @@ use Rattle.decoder.specs.declared.role.Address.{Address}
 use Rattle.decoder.specs.declared.role.Address.TheVariants as address
 use Rattle.decoder.specs.declared.role.Role.{Role}
 use Rattle.decoder.specs.declared.role.Role.TheVariants as role
-use Rattle.decoder.specs.Accesses.{access_of, access_acts, accessed, barred, same_truth, writes_by}
+use Rattle.decoder.specs.Accesses.{access_of, access_acts, accessed, barred, same_truth, writes_by, mobile_offset, accessory_offset}
 use Rattle.decoder.specs.Accessories.{AccessoryKind, basic_kind, extended_kind, accessory_acts}
 use Rattle.decoder.specs.Fresh.{Basic, Extended}
 use Rattle.decoder.specs.Hearing.{is_short, in_consist}
@@ -74,7 +74,8 @@ module _ {X : Type 0} (m : Rules X) (o : Own X) (bs : List ℕ) where
       go false bar e f = refl
 
   abbrev acts : Option Access → Bool
-  acts a = access_acts m.offset (m.waiting o.rec) (packed bs) (accessed a (named o.vars a))
+  acts a =
+      access_acts (m.waiting o.rec) (packed bs) (accessed a (named m.offset o.vars a))
 
   written :
       (cv : CvNumber)
@@ -134,8 +135,8 @@ silent :
 silent enabled acts x e = ap (λ c. cond (c && acts) (Some x) None) e
 
 -- the answer, by the variable that an access names
-abbrev answer : List ℕ → Option Access → Reply
-answer vars a = answer_of (accessed a (named vars a))
+abbrev answer : ℕ → List ℕ → Option Access → Reply
+answer offset vars a = answer_of (accessed a (named offset vars a))
 
 -- of a kind: there is no reply but by the own address, and what decides there is what acts
 module _ {X : Type 0} (m : Rules X) (latest : X → Option Reply) where
@@ -151,13 +152,13 @@ module _ {X : Type 0} (m : Rules X) (latest : X → Option Reply) where
         (o : Own X) (bs : List ℕ) (i : Instruction)
         → latest (m.obeys o role.Own bs i).rec
         ≡ cond (bit_of (variable o.vars (m.offset + 29)) 3 && acts o bs i)
-        (Some (answer o.vars (access_of i))) None
+        (Some (answer m.offset o.vars (access_of i))) None
     then : (o : Own X) (bs : List ℕ) (i : Instruction) → Acts o bs i → acts o bs i ≡ true
     else_not : (o : Own X) (bs : List ℕ) (i : Instruction) → ¬ Acts o bs i → acts o bs i ≡ false
     says :
         (o : Own X) (bs : List ℕ) (i : Instruction)
         → Acts o bs i
-        → answer o.vars (access_of i) ≡ answer_to i
+        → answer m.offset o.vars (access_of i) ≡ answer_to i
     long :
         (o : Own X) (bs : List ℕ) (i : Instruction) (a : Access)
         → access_of i ≡ Some a
@@ -284,7 +285,10 @@ module _ (o : Own Mobile) (bs : List ℕ) where
   mobile_not (instruction.Aspect n) h = refl
   mobile_not i h = absurd (h tt)
 
-  mobile_answer : (i : Instruction) → MobileActs o bs i → answer o.vars (access_of i) ≡ answer_to i
+  mobile_answer :
+      (i : Instruction)
+      → MobileActs o bs i
+      → answer mobile_offset o.vars (access_of i) ≡ answer_to i
   mobile_answer (instruction.VerifyByte cv x) h = ap reply.Value h
   mobile_answer i h = refl
 
@@ -314,7 +318,10 @@ module _ (o : Own Basic) (bs : List ℕ) where
   basic_not (instruction.Output n on) h = absurd (h tt)
   basic_not i h = acts_not basic_rules o bs i h
 
-  basic_answer : (i : Instruction) → BasicActs o bs i → answer o.vars (access_of i) ≡ answer_to i
+  basic_answer :
+      (i : Instruction)
+      → BasicActs o bs i
+      → answer accessory_offset o.vars (access_of i) ≡ answer_to i
   basic_answer (instruction.VerifyByte cv x) h = ap reply.Value h
   basic_answer i h = refl
 
@@ -342,7 +349,9 @@ module _ (o : Own Extended) (bs : List ℕ) where
   extended_not i h = acts_not extended_rules o bs i h
 
   extended_answer :
-      (i : Instruction) → ExtendedActs o bs i → answer o.vars (access_of i) ≡ answer_to i
+      (i : Instruction)
+      → ExtendedActs o bs i
+      → answer accessory_offset o.vars (access_of i) ≡ answer_to i
   extended_answer (instruction.VerifyByte cv x) h = ap reply.Value h
   extended_answer i h = refl
 
