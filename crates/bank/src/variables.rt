@@ -30,8 +30,12 @@ pub trait Variables: Listener {
     /// A packet comes: the decoder obeys it if it hears it, and answers whether it does.
     fn hear<M: Memory>(&mut self, window: &mut Window<'_, M>, packet: &[u8], said: Packet) -> bool
         ensures heard { result ≡ is_heard Self.Listener.rules said.target (own self.old (variables window.old)) }
-        ensures rec { self.new ≡ (after_hearing Self.Listener.rules packet.now said.target said.instruction (own self.old (variables window.old))).rec }
-        ensures vars { Became window.old window.new (after_hearing Self.Listener.rules packet.now said.target said.instruction (own self.old (variables window.old))).vars }
+        ensures rec { self.new
+            ≡ (after_hearing Self.Listener.rules packet.now said.target said.instruction
+            (own self.old (variables window.old))).rec }
+        ensures vars { Became window.old window.new
+            (after_hearing Self.Listener.rules packet.now said.target said.instruction
+            (own self.old (variables window.old))).vars }
     {
         // Most packets are for others: only where one is heard the variable that it names is read.
         let others = Self::view(window, None);

@@ -28,7 +28,7 @@ use Rattle.decoder.specs.Alone.{Own, Rules, variable, named, as_heard, mobile_vi
 use Rattle.decoder.specs.Alone.{mobile_rules, basic_rules, extended_rules}
 use Rattle.decoder.specs.Going.{GoesAlone}
 use Rattle.decoder.specs.Replying.{LongFormActs, WriteActs, MobileActs, BasicActs, ExtendedActs}
-use Rattle.decoder.specs.Replying.{answer_to, RepliesNeedAll}
+use Rattle.decoder.specs.Replying.{reply_due, RepliesNeedAll}
 use Rattle.decoder.proofs.Gone.{not_in_consist}
 use Rattle.decoder.proofs.Verified.{acting, not_barred}
 
@@ -158,7 +158,7 @@ module _ {X : Type 0} (m : Rules X) (latest : X → Option Reply) where
     says :
         (o : Own X) (bs : List ℕ) (i : Instruction)
         → Acts o bs i
-        → answer m.offset o.vars (access_of i) ≡ answer_to i
+        → answer m.offset o.vars (access_of i) ≡ reply_due i
     long :
         (o : Own X) (bs : List ℕ) (i : Instruction) (a : Access)
         → access_of i ≡ Some a
@@ -288,7 +288,7 @@ module _ (o : Own Mobile) (bs : List ℕ) where
   mobile_answer :
       (i : Instruction)
       → MobileActs o bs i
-      → answer mobile_offset o.vars (access_of i) ≡ answer_to i
+      → answer mobile_offset o.vars (access_of i) ≡ reply_due i
   mobile_answer (instruction.VerifyByte cv x) h = ap reply.Value h
   mobile_answer i h = refl
 
@@ -321,7 +321,7 @@ module _ (o : Own Basic) (bs : List ℕ) where
   basic_answer :
       (i : Instruction)
       → BasicActs o bs i
-      → answer accessory_offset o.vars (access_of i) ≡ answer_to i
+      → answer accessory_offset o.vars (access_of i) ≡ reply_due i
   basic_answer (instruction.VerifyByte cv x) h = ap reply.Value h
   basic_answer i h = refl
 
@@ -351,7 +351,7 @@ module _ (o : Own Extended) (bs : List ℕ) where
   extended_answer :
       (i : Instruction)
       → ExtendedActs o bs i
-      → answer accessory_offset o.vars (access_of i) ≡ answer_to i
+      → answer accessory_offset o.vars (access_of i) ≡ reply_due i
   extended_answer (instruction.VerifyByte cv x) h = ap reply.Value h
   extended_answer i h = refl
 

@@ -61,9 +61,9 @@ ExtendedActs o bs (instruction.Aspect number) = ⊤
 ExtendedActs o bs i = LongFormActs extended_rules o bs i
 
 -- the verify of a byte is answered by the variable's value, all else by an acknowledgment
-abbrev pub answer_to : Instruction → Reply
-answer_to (instruction.VerifyByte cv x) = reply.Value x
-answer_to i = reply.Acknowledgment
+abbrev pub reply_due : Instruction → Reply
+reply_due (instruction.VerifyByte cv x) = reply.Value x
+reply_due i = reply.Acknowledgment
 
 -- of a kind of decoder, whose latest reply is `latest`, and of what acts by its own address
 module _ {X : Type 0} (m : Rules X) (latest : X → Option Reply) where
@@ -76,7 +76,7 @@ module _ {X : Type 0} (m : Rules X) (latest : X → Option Reply) where
         (o : Own X) (bs : List ℕ) (i : Instruction)
         → RepliesEnabled m o
         → Acts o bs i
-        → latest (m.obeys o role.Own bs i).rec ≡ Some (answer_to i)
+        → latest (m.obeys o role.Own bs i).rec ≡ Some (reply_due i)
     pub disabled :
         (o : Own X) (r : Role) (bs : List ℕ) (i : Instruction)
         → bit_of (variable o.vars (m.offset + 29)) 3 ≡ false

@@ -3,12 +3,10 @@
 #![tactic(auto)]
 
 ghost use Rattle.std.specs.Prelude.{◌≡◌};
-ghost use Rattle.script.specs.declared.call.Request.TheVariants.{Set};
-ghost use Rattle.script.specs.Decoders.{lives, changed, events_of, variable_in};
-ghost use Rattle.script.specs.Boards.{decoders, Rest};
-ghost use Rattle.script.specs.Calls.{answer_of, after_by};
+ghost use Rattle.script.specs.Decoders.{variable_in};
+ghost use Rattle.script.specs.Calls.{answer_of};
 ghost use Rattle.board.specs.Slots.{running_kinds};
-ghost use Rattle.hosts.specs.Chips.{on_chip, on_strip};
+ghost use Rattle.hosts.specs.Chips.{on_chip, on_strip, SetOne};
 
 use board::Running;
 use fault::Fault;
@@ -25,9 +23,11 @@ pub fn set_and_read(
     variable: u16,
     value: u8,
 ) -> Result<u8, Fault>
-    ensures answer { result ≡ answer_of (running_kinds board.now) (on_chip banks.new chip.new) decoder (variable_in variable) }
-    ensures after { decoders (running_kinds board.now) (on_chip banks.new chip.new) ≡ after_by (running_kinds board.now) (on_chip banks.old chip.old) (changed (λ d. lives d (events_of (Set variable value))) decoder.kind decoder.number) }
-    ensures rest { Rest (running_kinds board.now) (on_chip banks.old chip.old) (on_chip banks.new chip.new) }
+    ensures set { SetOne (running_kinds board.now) (on_chip banks.old chip.old) (on_chip banks.new chip.new)
+        decoder variable value }
+    ensures answer { result
+        ≡ answer_of (running_kinds board.now) (on_chip banks.new chip.new)
+        decoder (variable_in variable) }
 {
     let mut memory = ByteMemory::new(chip);
     let _ = board.set(banks, &mut memory, decoder, variable, value);
@@ -44,9 +44,14 @@ pub fn set_and_read_on_strip(
     variable: u16,
     value: u8,
 ) -> Result<u8, Fault>
-    ensures answer { result ≡ answer_of (running_kinds board.now) (on_strip banks.new strip.new.below.places.now strip.new.first strip.new.count) decoder (variable_in variable) }
-    ensures after { decoders (running_kinds board.now) (on_strip banks.new strip.new.below.places.now strip.new.first strip.new.count) ≡ after_by (running_kinds board.now) (on_strip banks.old strip.old.below.places.now strip.old.first strip.old.count) (changed (λ d. lives d (events_of (Set variable value))) decoder.kind decoder.number) }
-    ensures rest { Rest (running_kinds board.now) (on_strip banks.old strip.old.below.places.now strip.old.first strip.old.count) (on_strip banks.new strip.new.below.places.now strip.new.first strip.new.count) }
+    ensures set { SetOne (running_kinds board.now)
+        (on_strip banks.old strip.old.below.places.now strip.old.first strip.old.count)
+        (on_strip banks.new strip.new.below.places.now strip.new.first strip.new.count)
+        decoder variable value }
+    ensures answer { result
+        ≡ answer_of (running_kinds board.now)
+        (on_strip banks.new strip.new.below.places.now strip.new.first strip.new.count)
+        decoder (variable_in variable) }
     ensures lender { strip.new.below.places.ghost_name ≡ strip.old.below.places.ghost_name }
 {
     let _ = board.set(banks, strip, decoder, variable, value);
