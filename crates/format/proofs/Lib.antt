@@ -1,4 +1,5 @@
 pub mod Backs
+pub mod Examples
 pub mod Forths
 pub mod Nowhere
 pub mod Placed

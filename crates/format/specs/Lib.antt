@@ -2,3 +2,4 @@ pub mod Reading
 pub mod Writing
 pub mod Refusing
 pub mod Laws
+pub mod Examples

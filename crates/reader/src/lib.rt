@@ -3,9 +3,11 @@
 #![tactic(auto)]
 
 mod accessory;
+mod laws;
 mod lengths;
 mod mobile;
 mod reading;
 mod variables;
 
+pub use crate::laws::examples_read;
 pub use crate::reading::read;
