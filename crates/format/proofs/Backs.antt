@@ -5,16 +5,21 @@ use Rattle.packet.specs.declared.cv.CvNumber.{CvNumber}
 use Rattle.packet.specs.declared.instruction.FunctionGroup.TheVariants.{F0ToF4}
 use Rattle.packet.specs.declared.instruction.Instruction.{Instruction}
 use Rattle.packet.specs.declared.instruction.Instruction.TheVariants.{Functions, VerifyByte, WriteByte, VerifyBit, WriteBit}
-use Rattle.packet.specs.Wires.{cv_at}
+use Rattle.packet.specs.Wires.{wire_of, wire_bytes, cv_at}
 use Rattle.format.specs.Reading.{mobile, cv_access, basic, extended}
 use Rattle.format.specs.Writing.{form_of, cv_body, mobile_body, basic_body, extended_body, output_bits}
 use Rattle.packet.proofs.Cvs.{cv_is}
 
 -- the variable at the address that it was written by, whatever lies above the two lowest bits
-cv_back : (cv : CvNumber) (k : ℕ) → cv_at (4 * k + (cv.number - 1) / 256) ((cv.number - 1) % 256) ≡ cv
-cv_back cv k = cv_is (cv_at (4 * k + (cv.number - 1) / 256) ((cv.number - 1) % 256)) cv (omega (arith, cv.least, cv.most))
+cv_back :
+    (cv : CvNumber) (k : ℕ)
+    → cv_at (4 * k + (wire_bytes (wire_of cv)).0) (wire_bytes (wire_of cv)).1 ≡ cv
+cv_back cv k =
+    let upper = (wire_bytes (wire_of cv)).0 in
+    let lower = (wire_bytes (wire_of cv)).1 in
+    cv_is (cv_at (4 * k + upper) lower) cv (omega (arith, cv.least, cv.most))
 
-cv_upper : (cv : CvNumber) → (cv.number - 1) / 256 < 4
+cv_upper : (cv : CvNumber) → (wire_bytes (wire_of cv)).0 < 4
 cv_upper cv = omega (arith, cv.least, cv.most)
 
 pub access_back : (i : Instruction) (bs : List ℕ) → cv_body (form_of i) ≡ Ok bs → cv_access bs ≡ Ok i

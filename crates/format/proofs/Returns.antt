@@ -12,7 +12,7 @@ use Rattle.packet.specs.declared.instruction.Instruction.TheVariants.{NoOperatio
 use Rattle.packet.specs.declared.packet.Packet.{Packet}
 use Rattle.packet.specs.Parity.{parity, sealed}
 use Rattle.format.specs.Reading.{Asked, packet_of, told, mobile, basic, extended, basic_address, extended_address, is_extended_head, long, idle, accessory, addressed, front, packet_read}
-use Rattle.format.specs.Writing.{form_of, body_of, output_bits, head_of, encoded}
+use Rattle.format.specs.Writing.{form_of, body_of, output_bits, basic_second, extended_second, head_of, encoded}
 use Rattle.format.proofs.Forths.{mobile_forth, basic_forth, extended_forth}
 use Rattle.packet.proofs.Parities.{parity_last}
 
@@ -62,10 +62,16 @@ long_forth b d bs p a l m e =
     let q : told (Long (256 * (b - 0xc0) + d)) (mobile bs) ≡ Ok p = grind (arith, nat_tests) in
     split (Long (256 * (b - 0xc0) + d)) (b ∷ d ∷ []) bs (mobile bs) p q (λ i f. (grind (arith, nat_tests), mobile_forth bs a.1 i f))
 
-basic_head : (b d : ℕ) (o : ℕ) → 0x80 ≤ b → b < 0xc0 → 0x80 ≤ d → d < 256 → o ≡ d % 16 → (basic_address b d < 512) × (0x80 + basic_address b d % 64 ≡ b) × (0x80 + 16 * (7 - basic_address b d / 64) + o ≡ d)
+basic_head :
+    (b d : ℕ) (o : ℕ) → 0x80 ≤ b → b < 0xc0 → 0x80 ≤ d → d < 256 → o ≡ d % 16
+    → (basic_address b d < 512) × (0x80 + basic_address b d % 64 ≡ b) × (basic_second (basic_address b d) o ≡ d)
 basic_head b d o l m n k e = (omega arith, omega arith, omega arith)
 
-extended_head : (b d : ℕ) → 0x80 ≤ b → b < 0xc0 → is_extended_head d ≡ true → (extended_address b d < 2048) × (0x80 + extended_address b d / 4 % 64 ≡ b) × (16 * (7 - extended_address b d / 256) + 2 * (extended_address b d % 4) + 1 ≡ d)
+extended_head :
+    (b d : ℕ) → 0x80 ≤ b → b < 0xc0 → is_extended_head d ≡ true
+    → (extended_address b d < 2048)
+    × (0x80 + extended_address b d / 4 % 64 ≡ b)
+    × (extended_second (extended_address b d) ≡ d)
 extended_head b d l m e =
     let p : d < 0x80 = grind (arith, nat_tests) in
     let q : d / 8 % 2 ≡ 0 = grind (arith, nat_tests) in

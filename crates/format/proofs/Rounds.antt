@@ -12,7 +12,7 @@ use Rattle.packet.specs.declared.instruction.FunctionGroup.TheVariants.{F0ToF4, 
 use Rattle.fault.specs.declared.refusal.Refusal.TheVariants.{FieldOutOfRange}
 use Rattle.packet.specs.Parity.{parity, sealed}
 use Rattle.format.specs.Reading.{packet_of, long, accessory, addressed, front, packet_read}
-use Rattle.format.specs.Writing.{Coded, Form, form_of, idle_body, mobile_body, basic_body, extended_body, body_of, output_bits, head_of, below, function_bytes, joined, encoded}
+use Rattle.format.specs.Writing.{Coded, Form, form_of, idle_body, mobile_body, basic_body, extended_body, body_of, output_bits, basic_second, head_of, below, function_bytes, joined, encoded}
 use Rattle.format.specs.Writing.Form.{nothing, mobile_only, anyone, output, aspect}
 use Rattle.format.proofs.Backs.{mobile_back, basic_back, extended_back}
 use Rattle.packet.proofs.Parities.{parity-sealed}
@@ -44,7 +44,7 @@ addressed_back (Short address) i h b e g = let m = mobile_back i b g in grind (a
 addressed_back (Long address) i h b e g = let m = mobile_back i b g in grind (arith, nat_tests)
 addressed_back (Basic address) i h b e g =
     let o = output_bits_lem (form_of i) in
-    let m = basic_back i (0x80 + 16 * (7 - address / 64) + output_bits (form_of i)) b (omega arith) g in
+    let m = basic_back i (basic_second address (output_bits (form_of i))) b (omega arith) g in
     grind (arith, nat_tests)
 addressed_back (Extended address) i h b e g = let m = extended_back i b g in grind (arith, nat_tests)
 

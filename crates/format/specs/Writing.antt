@@ -132,14 +132,24 @@ output_bits (anyone bs) = 0
 output_bits (output number on) = flag on 8 + number % 8
 output_bits (aspect number) = 0
 
--- 10AAAAAA, and the complemented upper three bits of the address with four or five bits below them
+-- the second byte of an accessory head: the complemented upper three bits of the address, and below them CDDD, or the
+-- two lowest bits of the address in 0AA1
+abbrev pub basic_second : ℕ → ℕ → ℕ
+basic_second address cddd = 0x80 + 16 * (7 - address / 64) + cddd
+
+abbrev pub extended_second : ℕ → ℕ
+extended_second address = 16 * (7 - address / 256) + 2 * (address % 4) + 1
+
+-- the first byte of such a head is 10AAAAAA
 abbrev pub head_of : Target → Form → Coded
 head_of Idle f = Ok (0xff ∷ 0x00 ∷ [])
 head_of Broadcast f = Ok (0x00 ∷ [])
 head_of (Short address) f = cond (address == 0) unfit (below address 128 (address ∷ []))
 head_of (Long address) f = below address 10240 ((0xc0 + address / 256) ∷ (address % 256) ∷ [])
-head_of (Basic address) f = below address 512 ((0x80 + address % 64) ∷ (0x80 + 16 * (7 - address / 64) + output_bits f) ∷ [])
-head_of (Extended address) f = below address 2048 ((0x80 + address / 4 % 64) ∷ (16 * (7 - address / 256) + 2 * (address % 4) + 1) ∷ [])
+head_of (Basic address) f =
+    below address 512 ((0x80 + address % 64) ∷ basic_second address (output_bits f) ∷ [])
+head_of (Extended address) f =
+    below address 2048 ((0x80 + address / 4 % 64) ∷ extended_second address ∷ [])
 
 abbrev pub joined : Coded → Coded → Coded
 joined (Err e) body = Err e
