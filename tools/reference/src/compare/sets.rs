@@ -316,6 +316,7 @@ pub fn published(plan: &Plan) -> Report {
                 block_agrees(origin, &bench, bench::lines, block)
                     && is_as_published(origin, example, &bench.run(&[], block))
             }
+            Example::Listing { block, .. } => is_as_published(origin, example, &lister.run(&[], block)),
         };
         agree & example.blocks().iter().all(|block| block_agrees(origin, &lister, listing::lines, block))
     })
