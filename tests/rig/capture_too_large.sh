@@ -1,0 +1,5 @@
+cp tests/twin/alike.fittings "$2"
+cd "$2" || exit
+truncate -s 2G big
+ulimit -v 1000000
+exec "$1" replay alike.fittings big

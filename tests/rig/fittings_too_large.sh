@@ -1,0 +1,4 @@
+cd "$2" || exit
+truncate -s 2G big
+ulimit -v 1000000
+exec "$1" twin big big

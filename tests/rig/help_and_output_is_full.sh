@@ -1,0 +1,1 @@
+exec "$1" --help >/dev/full

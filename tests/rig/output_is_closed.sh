@@ -1,0 +1,1 @@
+exec "$1" run tests/rig/one_hears.script >&-
