@@ -29,7 +29,7 @@ abbrev pub aspect_forms : List Shape
 aspect_forms = shape 0x00 0x1f 1 ∷ cv_forms
 
 -- to a mobile decoder: resets, addressing, acknowledgment request, consist, speeds, function groups one and two,
--- long binary state, functions from F13 and short binary state, the two short-form writes, the long form
+-- long binary state, functions from F13 and short binary state, the two adjustments, the long form
 abbrev pub mobile_forms : List Shape
 mobile_forms =
     shape 0x00 0x01 1 ∷ shape 0x0a 0x0b 1 ∷ shape 0x0f 0x0f 1 ∷ shape 0x12 0x13 2 ∷ shape 0x3f 0x3f 2 ∷ shape 0x40 0xbf 1
