@@ -64,7 +64,7 @@ impl Running {
     }
 
     /// Copies all of a decoder's volatile part to the place. A refusal (17, 18) leaves the place as it was.
-    // A rule of the project: the caller lends the record that the state is copied into.
+    // The caller lends the place, for the reason that `Banks::state` gives.
     pub fn state<M: Memory>(
         &self,
         banks: Banks<'_>,

@@ -14,7 +14,7 @@ use script::{DecoderName, DecoderState};
 
 impl<'a> Banks<'a> {
     /// Copies all of a decoder's volatile part to the place.
-    // A rule of the project: the state is copied into a record that the caller lends, and no new one is made for it.
+    // The caller lends the place: a state has hundreds of bytes, and there is no heap to put another one into.
     pub fn state<M: Memory>(
         self,
         kinds: &[Kind],
