@@ -8,6 +8,8 @@ mod trial;
 use crate::lines::Shown;
 use crate::trial::try_block;
 use input::read_up_to;
+use std::env;
+use words::VERSION;
 
 fn run(rt: &HostRuntime) -> anyhow::Result<()> {
     // One byte more than a block may have, so that a longer input is seen to be one.
@@ -18,6 +20,18 @@ fn run(rt: &HostRuntime) -> anyhow::Result<()> {
     Ok(())
 }
 
+/// Whether the program is called with the one word `--version`.
+fn asks_version(rt: &HostRuntime) -> bool {
+    let Ok(mut args) = env::args(rt) else {
+        return false;
+    };
+    args.len() == 2 && args.nth(1).is_some_and(|word| word.as_str() == "--version")
+}
+
 fn main(rt: HostRuntime) -> anyhow::Result<()> {
+    if asks_version(&rt) {
+        println!(rt; "bench {VERSION}")?;
+        return Ok(());
+    }
     run(&rt)
 }

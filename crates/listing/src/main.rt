@@ -7,6 +7,8 @@ mod lines;
 use crate::lines::Tally;
 use block::Walk;
 use input::read_up_to;
+use std::env;
+use words::VERSION;
 
 fn list(rt: &HostRuntime, block: &[u8]) -> anyhow::Result<()> {
     let walk = match Walk::new(block) {
@@ -33,6 +35,18 @@ fn run(rt: &HostRuntime) -> anyhow::Result<()> {
     list(rt, &bytes[0..count])
 }
 
+/// Whether the program is called with the one word `--version`.
+fn asks_version(rt: &HostRuntime) -> bool {
+    let Ok(mut args) = env::args(rt) else {
+        return false;
+    };
+    args.len() == 2 && args.nth(1).is_some_and(|word| word.as_str() == "--version")
+}
+
 fn main(rt: HostRuntime) -> anyhow::Result<()> {
+    if asks_version(&rt) {
+        println!(rt; "listing {VERSION}")?;
+        return Ok(());
+    }
     run(&rt)
 }

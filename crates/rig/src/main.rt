@@ -29,6 +29,7 @@ use crate::trouble::Trouble;
 use crate::twin::{replay, twin, twin_with_other};
 use std::process::ExitCode;
 use std::{env, io};
+use words::VERSION;
 
 const USAGE: &str = "usage: rig run [FILE]
        rig replay FITTINGS CAPTURE
@@ -52,6 +53,10 @@ fn perform(rt: &HostRuntime) -> Result<ExitCode, Trouble> {
         }
         ["--help"] => {
             rt.print(USAGE)?;
+            Ok(ExitCode::SUCCESS)
+        }
+        ["--version"] => {
+            println!(rt; "rig {VERSION}")?;
             Ok(ExitCode::SUCCESS)
         }
         _ => Err(Trouble::Usage),

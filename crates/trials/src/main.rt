@@ -13,6 +13,8 @@ mod writes;
 
 use crate::refusals::show_refusals;
 use crate::rows::{is_comment, judge};
+use std::env;
+use words::VERSION;
 
 fn run(rt: &HostRuntime) -> anyhow::Result<()> {
     let mut good: u32 = 0;
@@ -35,6 +37,18 @@ fn run(rt: &HostRuntime) -> anyhow::Result<()> {
     Ok(())
 }
 
+/// Whether the program is called with the one word `--version`.
+fn asks_version(rt: &HostRuntime) -> bool {
+    let Ok(mut args) = env::args(rt) else {
+        return false;
+    };
+    args.len() == 2 && args.nth(1).is_some_and(|word| word.as_str() == "--version")
+}
+
 fn main(rt: HostRuntime) -> anyhow::Result<()> {
+    if asks_version(&rt) {
+        println!(rt; "trials {VERSION}")?;
+        return Ok(());
+    }
     run(&rt)
 }

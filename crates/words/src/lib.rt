@@ -1,4 +1,4 @@
-//! Targets, instructions and packets in words, for people, and bytes and switches as they are printed.
+//! Targets, instructions and packets in words, for people, bytes and switches as they are printed, and the version.
 
 #![tactic(auto)]
 
@@ -6,8 +6,10 @@ mod instructions;
 pub mod lists;
 mod switches;
 mod targets;
+mod version;
 pub mod wrapper;
 
 pub use crate::lists::{Hex, NumbersOn};
 pub use crate::switches::{direction, switched};
+pub use crate::version::VERSION;
 pub use crate::wrapper::InWords;
