@@ -38,7 +38,7 @@ first_refused ((o, fill) ∷ rs) = first_refused rs
 first_refused ((o, power_up) ∷ rs) = first_refused rs
 first_refused ((o, packet p) ∷ rs) = refused_first (packet_read p) o (first_refused rs)
 
--- what the decoders answer of a block that is taken, t, and what a survey of it does, s
+-- what is answered of a block that the decoders take, t, and what a survey of it does, s
 pub record CountsAgree (ds : List Decoder) (b : List ℕ) (t : Taken) (s : Survey) : Type 0 where
   -- each packet that the block carries is heard, unheard or refused
   pub packets : t.heard + t.unheard + t.refused ≡ s.packets

@@ -10,7 +10,8 @@ pub fn counts_add_up()
     ensures { CountsAddUp }
 {}
 
-/// A setting is read back, and what is told of functions and binary states is what stands.
+/// A setting is read back, and what is told of functions, binary states and all of the state is
+/// what stands.
 pub fn requests_answered()
     ensures { RequestsAnswered }
 {}
