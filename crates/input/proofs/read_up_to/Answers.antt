@@ -1,7 +1,8 @@
-use Rattle.std.proofs.Common.{◌≡◌, ℕ, ◌+◌, ◌-◌, ◌≤◌, List, ◌++◌, rules, arith, length, take, slice_range, sym, ap, ◌∙◌, subst, le_refl, drop_at, length-take-le}
+use Rattle.std.proofs.Common.{◌≡◌, ℕ, ◌+◌, ◌-◌, ◌≤◌, List, ◌++◌, rules, arith, length, take, SomeIndex, slice_range, sym, Ok, Err, Result, ap, ◌∙◌, subst, le_refl, drop_at, length-take-le}
 use Rattle.std.proofs.lemmas.Slice.{take-put_mid_below}
 use Rattle.std.specs.Io.KnownBytes.{Consumes}
-use Rattle.std.proofs.KnownBytes.{Consumes-trans}
+use Rattle.std.specs.Result.{OnErr}
+use Rattle.std.proofs.KnownBytes.{Consumes-trans, Consumes-kept}
 use borrow.Rule.Slice.PartMut.{put_mid, post_of}
 use lib.Seq.{take-add, take-append-le}
 use Rattle.input.proofs.read_up_to.Goals as goal
@@ -28,3 +29,21 @@ loop-count-preserved g c =
     let part = slice_range-put_mid from room more c.loop-count.place c.read.new.buf within c.in_ok-more.ensures.bound.0 in
     let joined = take_split from (from + more) c.loop-count.place (put_mid from room c.loop-count.place c.read.new.buf) (omega arith) (take-put_mid_below _ _ _ _ _ (le_refl _) within) in
     (search rules, search rules, subst (Consumes _ _) (ap (λ l. take from c.loop-count.place ++ l) (sym part) ∙ joined) (Consumes-trans _ _ _ _ _ c.loop-count.invariant.2 c.in_ok-more.ensures.bytes.0))
+
+always_on_err : {X E P : Type 0} (r : Result X E) → P → OnErr r P
+always_on_err (Ok x) p = tt
+always_on_err (Err e) p = p
+
+-- a read that fails leaves what was read before it, in the input as at the front of the place
+pub returns-in_err-more-clause-failed : goal.returns-in_err-more-clause-failed
+returns-in_err-more-clause-failed g c =
+    let from = c.loop-count.count in
+    let place = c.loop-count.place in
+    let within = c.loop-count.invariant.1 in
+    let now = put_mid from (length place - from) place c.read.new.buf in
+    let front : take from now ≡ take from place = take-put_mid_below _ _ _ _ _ (le_refl _) within in
+    let kept = Consumes-kept _ _ _ _ c.loop-count.invariant.2 c.in_err-more.ensures.bytes in
+    let had = g.R.Read.remaining c.args.input.now in
+    let left = g.R.Read.remaining c.read.new.self in
+    let some : SomeIndex now (λ n. Consumes had left (take n now)) = (from, search rules, subst (Consumes _ _) (sym front) kept) in
+    always_on_err _ some
