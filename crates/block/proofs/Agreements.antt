@@ -1,5 +1,5 @@
 -- The laws of surveys and of what is handed out. Assumes nothing.
-use Rattle.std.proofs.Common.{◌≡◌, ℕ, suc, ◌+◌, ◌<◌, ◌≤◌, true, false, ◌⊎◌, ⊎_elim, List, [], ◌∷◌, length, slice_get, Ok, sym, refl, ap, ◌∙◌, arith}
+use Rattle.std.proofs.Common.{◌≡◌, ℕ, suc, ◌+◌, ◌<◌, ◌≤◌, true, false, ◌⊎◌, ⊎_elim, List, [], ◌∷◌, length, slice_get, Ok, refl, ap, ◌∙◌, arith}
 use Rattle.std.proofs.lemmas.Bool.{cond-true, cond-false}
 use Rattle.std.proofs.lemmas.Bool.Decides.{nat_tests}
 use Rattle.std.specs.Option.{ok_or}
@@ -12,7 +12,8 @@ use Rattle.block.specs.Reading.{reading, carried}
 use Rattle.block.specs.Summing.{summed, surveyed, packet_count, power_up_count}
 use Rattle.block.specs.Tiling.{Tiles}
 use Rattle.block.specs.Laws.{packets_among, RefusesLengths, SurveysOthers, HandsOutEach, CountsEach, PacketsAgree}
-use Rattle.block.proofs.Handings.{packets, places}
+use Rattle.block.specs.Handing.{bytes_in}
+use Rattle.block.proofs.Handings.{packets, handed_bytes}
 use Rattle.block.proofs.Tilings.{sound}
 
 among : (rs : List (ℕ × Thing)) → packets rs ≡ packets_among rs
@@ -23,8 +24,8 @@ among ((o, packet p) ∷ rs) = ap (λ ps. p ∷ ps) (among rs)
 
 hands_out_each : HandsOutEach
 hands_out_each b n good =
-    cond-true _ _ _ good ∙ sym (places b (carried (reading b)) 0 _ n (sound b).0)
-    ∙ ap (λ ps. ok_or (slice_get ps n) (fault_at NumberOutOfRange 0)) (among (carried (reading b)))
+    ap bytes_in (cond-true _ _ _ good) ∙ handed_bytes b n
+    ∙ ap (λ ps. ok_or (slice_get ps n) (fault_at NumberOutOfRange 0)) (among (carried (reading b.now)))
 
 counted : (rs : List (ℕ × Thing)) → packet_count rs ≡ length (packets_among rs)
 counted [] = refl
@@ -56,7 +57,13 @@ no_length : (n : ℕ) → (n ≡ 0) ⊎ (512 < n) → is_block_length n ≡ fals
 no_length n h = ⊎_elim (λ e. grind (arith, nat_tests)) (λ l. grind (arith, nat_tests)) h
 
 refuses : RefusesLengths
-refuses b h = let e = no_length (length b) h in record { checked = cond-false _ _ _ e; handed = λ n. cond-false _ _ _ e; survey = cond-false _ _ _ e }
+refuses b h =
+    let e = no_length (length b) h in
+    record {
+      checked = cond-false _ _ _ e;
+      handed = λ lent n is. cond-false _ _ _ (ap (λ l. is_block_length (length l)) is ∙ e);
+      survey = cond-false _ _ _ e;
+    }
 
 surveys : SurveysOthers
 surveys b low high = let e = a_length (length b) low high in (cond-true _ _ _ e, (summed (length b) (reading b), cond-true _ _ _ e))

@@ -3,7 +3,6 @@ pub mod Shapes
 pub mod Steps
 pub mod Sums
 pub mod Handings
-pub mod Picks
 pub mod Tilings
 pub mod Walkings
 pub mod Examples

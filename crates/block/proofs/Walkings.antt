@@ -1,15 +1,18 @@
 -- What the calls of `next` give, one after the other.
-use Rattle.std.proofs.Common.{◌≡◌, ℕ, ◌<◌, ◌≤◌, List, [], ◌∷◌, length, Some, None, Ok, Err, Option, Result, sym, refl, ap, ◌∙◌, subst, arith}
+use Rattle.std.proofs.Common.{◌≡◌, ℕ, ◌<◌, ◌≤◌, List, [], ◌∷◌, length, map, Some, None, Ok, Err, Option, Result, Bor, sym, refl, ap, ap₂, ◌∙◌, subst, arith}
 use Rattle.std.proofs.lemmas.Iterator.Consumers.{YieldsList-from_shown}
+use Rattle.std.proofs.lemmas.List.{length-map}
 use Rattle.std.specs.Iterator.{AlwaysYields}
 use Rattle.fault.specs.declared.fault.Fault.{Fault}
 use Rattle.block.specs.declared.records.Carried.{Carried}
+use Rattle.block.specs.declared.records.Record.{Record}
+use Rattle.block.specs.declared.records.Record.TheVariants.{Fill, PowerUp, Packet}
 use Rattle.block.specs.declared.walk.Walk.{Walk}
-use Rattle.block.specs.Contents.{Thing, Placed, record_at, ends_at, found, placed_in, thing_in}
+use Rattle.block.specs.Contents.{Thing, Placed, record_at, ends_at, found, placed_in, thing_in, LiesIn}
 use Rattle.block.specs.Contents.Thing.{fill, power_up, packet}
 use Rattle.block.specs.Reading.{reading_from}
 use Rattle.block.specs.Reading.Reading.{done, broken}
-use Rattle.block.specs.Walking.{walked, stands_at, item_of, item_in, given_in, afterwards, Advances, item_at, items_of}
+use Rattle.block.specs.Walking.{walked, stands_at, item_of, item_in, given_in, afterwards, GivenIn, Advances, item_at, items_of, record_as, item_as}
 use Rattle.block.proofs.Shapes.{Told, told, told_as, later, ends_inside}
 use Rattle.block.proofs.Steps.{passing, onward, reads, reads_as, reads_end}
 
@@ -121,5 +124,32 @@ unfolding as_found
 one_fewer s (Ok c) t a = items_given s t (Some (Ok c)) a ∙ ap (λ l. Ok (placed_in c) ∷ l) (sym (items_after s t (Some (Ok c)) a))
 one_fewer s (Err e) t a = items_given s t (Some (Err e)) a ∙ ap (λ l. Err e ∷ l) (sym (items_after s t (Some (Err e)) a))
 
-pub gives_left : (s : Walk) → AlwaysYields Advances item_in s (items_left s)
-gives_left s = (YieldsList-from_shown Advances item_in items_left none_left one_fewer s).runs
+-- ---- the same items as references into the block
+
+record_back : (b : Bor (List ℕ)) (o : ℕ) (r : Record) → LiesIn b o r → record_as b o (thing_in r) ≡ r
+record_back b o Fill h = refl
+record_back b o PowerUp h = refl
+record_back b o (Packet p) h = ap Packet (sym h)
+
+item_back : (b : Bor (List ℕ)) (x : Result Carried Fault) → GivenIn b (Some x) → item_as b (item_in x) ≡ x
+item_back b (Ok c) h = ap (λ (r : Record). Ok (record c { «record» = r })) (record_back b c.offset c.«record» h)
+item_back b (Err e) h = refl
+
+-- the walk stays on the same memory
+still_lent : (s t : Walk) (r : Option (Result Carried Fault)) → Advances s r t → t.block ≡ s.block
+still_lent s t r a = ap₂ (λ (p : ℕ × ℕ) (b : List ℕ). let lent : Bor (List ℕ) = record { ref_ptr = p; now = b } in lent) a.lies a.same
+
+abbrev lent_left : Walk → List (Result Carried Fault)
+lent_left s = map (item_as s.block) (items_left s)
+
+none_lent : (s t : Walk) → Advances s None t → length (lent_left s) ≡ 0
+none_lent s t a = length-map (items_left s) (item_as s.block) ∙ none_left s t a
+
+one_lent : (s : Walk) (x : Result Carried Fault) (t : Walk) → Advances s (Some x) t → lent_left s ≡ x ∷ lent_left t
+one_lent s x t a =
+    ap (map (item_as s.block)) (one_fewer s x t a)
+    ∙ ap (λ y. y ∷ map (item_as s.block) (items_left t)) (item_back s.block x a.within)
+    ∙ ap (λ b. x ∷ map (item_as b) (items_left t)) (sym (still_lent s t (Some x) a))
+
+pub lends_left : (s : Walk) → AlwaysYields Advances (λ x. x) s (lent_left s)
+lends_left s = (YieldsList-from_shown Advances (λ x. x) lent_left none_lent one_lent s).runs

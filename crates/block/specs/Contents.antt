@@ -1,5 +1,6 @@
 -- What stands at one place of a block.
-use Rattle.std.specs.Prelude.{ℕ, ◌+◌, ◌<◌, ◌≤◌, Bool, cond, ◌&&◌, List, [], ◌∷◌, length, take, drop, Some, None, Ok, Err, Option, Result, ◌==◌, nat_le, nat_lt, slice_index}
+use Rattle.std.specs.Prelude.{◌≡◌, ℕ, ◌+◌, ◌<◌, ◌≤◌, Bool, cond, ◌&&◌, List, [], ◌∷◌, length, take, drop, Some, None, Ok, Err, Option, Result, ◌==◌, nat_le, nat_lt, slice_index}
+use Rattle.std.specs.Borrow.{Bor}
 use Rattle.fault.specs.declared.fault.Fault.{Fault}
 use Rattle.fault.specs.declared.refusal.Refusal.TheVariants.{BlockLength, UnknownKind, BodyCutOff, NonzeroFill}
 use Rattle.fault.specs.Places.{fault_at}
@@ -83,8 +84,18 @@ found (Ok None) = Ok None
 found (Ok (Some c)) = Ok (Some (placed_in c))
 found (Err e) = Err e
 
+-- the bytes p that stand in the block b from its offset o on: that very memory, so far from the place of the block
+abbrev pub part : Bor (List ℕ) → ℕ → List ℕ → Bor (List ℕ)
+part b o p = record { ref_ptr = (b.ref_ptr.0, b.ref_ptr.1 + o); now = p }
+
+-- a packet of a record that begins at o is the part of the block behind the kind byte
+abbrev pub LiesIn : Bor (List ℕ) → ℕ → Record → Type 0
+LiesIn b o Fill = Unit {0}
+LiesIn b o PowerUp = Unit {0}
+LiesIn b o (Packet p) = p ≡ part b (o + 1) p.now
+
 -- the next record begins behind this one's kind byte, and within the block or at its end
-abbrev pub Within : List ℕ → ℕ → Result (Option Carried) Fault → Type 0
+abbrev pub Within : Bor (List ℕ) → ℕ → Result (Option Carried) Fault → Type 0
 Within b o (Ok None) = Unit {0}
-Within b o (Ok (Some c)) = (o < c.next) × (c.next ≤ length b)
+Within b o (Ok (Some c)) = (o < c.next) × (c.next ≤ length b.now) × LiesIn b c.offset c.«record»
 Within b o (Err e) = Unit {0}

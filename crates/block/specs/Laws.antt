@@ -1,5 +1,6 @@
 -- What a survey and the handing out of packets have to do with each other.
 use Rattle.std.specs.Prelude.{◌≡◌, ℕ, ◌+◌, ◌<◌, ◌≤◌, ◌⊎◌, true, List, [], ◌∷◌, length, Ok, Err}
+use Rattle.std.specs.Borrow.{Bor}
 use Rattle.std.specs.List.{slice_get}
 use Rattle.std.specs.Option.{ok_or}
 use Rattle.fault.specs.declared.refusal.Refusal.TheVariants.{BlockLength, NumberOutOfRange}
@@ -7,7 +8,7 @@ use Rattle.fault.specs.Places.{fault_at}
 use Rattle.block.specs.declared.summary.Survey.{Survey}
 use Rattle.block.specs.Contents.{Thing, is_block_length, length_checked}
 use Rattle.block.specs.Contents.Thing.{fill, power_up, packet}
-use Rattle.block.specs.Handing.{handed_out}
+use Rattle.block.specs.Handing.{handed_out, bytes_in}
 use Rattle.block.specs.Reading.{reading, carried}
 use Rattle.block.specs.Summing.{surveyed}
 
@@ -24,7 +25,10 @@ packets_of b = packets_among (carried (reading b))
 
 -- the numbers from 0 on name just the packets that a block carries
 abbrev pub HandsOutEach : Type 0
-HandsOutEach = (b : List ℕ) (n : ℕ) → is_block_length (length b) ≡ true → handed_out b n ≡ ok_or (slice_get (packets_of b) n) (fault_at NumberOutOfRange 0)
+HandsOutEach =
+    (b : Bor (List ℕ)) (n : ℕ)
+    → is_block_length (length b.now) ≡ true
+    → bytes_in (handed_out b n) ≡ ok_or (slice_get (packets_of b.now) n) (fault_at NumberOutOfRange 0)
 
 -- a survey counts each of these packets, and each record that is carried once
 abbrev pub CountsEach : Type 0
@@ -33,7 +37,7 @@ CountsEach = (b : List ℕ) (s : Survey) → surveyed b ≡ Ok s → (s.packets 
 -- a block of no bytes or of more than 512 is refused by a walk, a handing out and a survey, and any other is surveyed
 pub record LengthsRefused (b : List ℕ) : Type 0 where
   pub checked : length_checked (length b) ≡ Err (fault_at BlockLength 0)
-  pub handed : (n : ℕ) → handed_out b n ≡ Err (fault_at BlockLength 0)
+  pub handed : (lent : Bor (List ℕ)) (n : ℕ) → lent.now ≡ b → handed_out lent n ≡ Err (fault_at BlockLength 0)
   pub survey : surveyed b ≡ Err (fault_at BlockLength 0)
 
 abbrev pub RefusesLengths : Type 0

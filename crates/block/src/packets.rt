@@ -1,5 +1,5 @@
 ghost use Rattle.std.specs.Prelude.{◌≡◌};
-ghost use Rattle.block.specs.Handing.{handed_out, bytes_in};
+ghost use Rattle.block.specs.Handing.{handed_out};
 
 use crate::records::Record;
 use crate::walk::Walk;
@@ -10,7 +10,7 @@ use fault::{Fault, Refusal};
 /// It counts the packets that the block carries, those before its fill or its first fault, and tells no fault of the
 /// block but that of its length.
 pub fn packet_at<'a>(block: &'a [u8], n: usize) -> Result<&'a [u8], Fault>
-    ensures { bytes_in result ≡ handed_out block.now n }
+    ensures { result ≡ handed_out block.entry n }
 {
     Walk::new(block)?
         .filter_map(|item| match item.ok()?.record {

@@ -39,7 +39,7 @@ fn first_nonzero(block: &[u8], offset: usize) -> Option<usize>
 /// It does not look at the block's length: a walk has refused a block that is too long.
 pub(crate) fn record_at<'a>(block: &'a [u8], offset: usize) -> Result<Option<Carried<'a>>, Fault>
     ensures is { found result ≡ record_at block.now offset }
-    ensures within { Within block.now offset result }
+    ensures within { Within block.entry offset result }
 {
     let Some(&kind) = block.get(offset) else {
         return Ok(None);
@@ -52,10 +52,10 @@ pub(crate) fn record_at<'a>(block: &'a [u8], offset: usize) -> Result<Option<Car
         0x10 => (Record::PowerUp, offset + 1),
         0x03..=0x06 => {
             let next = offset + 1 + usize::from(kind);
-            let body = block
-                .get(offset + 1..next)
-                .ok_or(Refusal::BodyCutOff.at(offset))?;
-            (Record::Packet(body), next)
+            if block.len() < next {
+                return Err(Refusal::BodyCutOff.at(offset));
+            }
+            (Record::Packet(&block[offset + 1..next]), next)
         }
         _ => return Err(Refusal::UnknownKind.at(offset)),
     };

@@ -19,8 +19,8 @@ pub struct Walk<'a> {
 impl<'a> Walk<'a> {
     /// Begins at the front of a block, and refuses one that is empty or has more than 512 bytes.
     pub fn new(block: &'a [u8]) -> Result<Walk<'a>, Fault>
-        ensures begins { Begins block.now result }
-        ensures gives { GivesAll block.now result }
+        ensures begins { Begins block.entry result }
+        ensures gives { GivesAll block.entry result }
     {
         check_length(block)?;
         Ok(Walk { block, offset: 0 })
