@@ -6,6 +6,8 @@
 mod blocks;
 #[cfg(test)]
 mod memories;
+#[cfg(test)]
+mod prints;
 mod refusals;
 mod rows;
 #[cfg(test)]
