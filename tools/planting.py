@@ -1,5 +1,7 @@
 """What the tools share that plant changes in a copy of the repository: its crates, the copy, and edits by their texts."""
+import collections
 import os
+import re
 import shutil
 import subprocess
 
@@ -39,7 +41,7 @@ def run(words, folder, limit=900):
 
 
 def copy_repository(copy):
-    """Copies what the crates and tests are made of. It goes outside the repository, where the toolchain refuses code that no listed crate has."""
+    """Copies what crates and tests are made of, to a place outside: in the repository the toolchain refuses code of no listed crate."""
     shutil.rmtree(copy, ignore_errors=True)
     os.makedirs(copy)
     for part in ("crates", "crates.txt", "run", "tests", "tools"):
@@ -52,7 +54,7 @@ def copy_repository(copy):
     return copy
 
 
-# ---- edits: lines 'file: PATH', 'old: TEXT', 'new: TEXT', each TEXT one line
+# ---- edits: lines 'file: PATH', 'old: TEXT', 'new: TEXT', each TEXT what stands in one line
 
 
 class Unfit(Exception):
@@ -101,3 +103,22 @@ def edited(edit, top):
     if before == after:
         raise Unfit("it changes nothing")
     return after
+
+
+# ---- pairs: an edit of a definition and its code alike, and where the law is refused then; tools/pairs says how they are written
+
+Pair = collections.namedtuple("Pair", "name crate law place edit")
+
+
+def pairs():
+    """Those of tools/pairs.planted, in their order."""
+    for block in re.split(r"\n(?=pair: )", "\n" + text_of("tools/pairs.planted"))[1:]:
+        lines = block.split("\n")
+        about = [line for line in lines if re.match(r"(pair|law|refused):", line)]
+        known = dict(fields(about))
+        if len(about) != 3 or len(known) != 3:
+            raise Unfit(f"a pair has one line each of 'pair:', 'law:' and 'refused:': {lines[0]}")
+        changes = steps(line for line in lines if line not in about)
+        edit = [(path, old.replace("\\n", "\n"), new.replace("\\n", "\n")) for path, old, new in changes]
+        crate, _, law = known["law"].partition(" ")
+        yield Pair(known["pair"], crate, law, known["refused"], edit)
