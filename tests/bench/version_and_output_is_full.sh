@@ -1,0 +1,1 @@
+exec "$1" --version >/dev/full
