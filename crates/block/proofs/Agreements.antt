@@ -25,7 +25,8 @@ among ((o, packet p) ∷ rs) = ap (λ ps. p ∷ ps) (among rs)
 hands_out_each : HandsOutEach
 hands_out_each b n good =
     ap bytes_in (cond-true _ _ _ good) ∙ handed_bytes b n
-    ∙ ap (λ ps. ok_or (slice_get ps n) (fault_at NumberOutOfRange 0)) (among (carried (reading b.now)))
+    ∙ ap (λ ps. ok_or (slice_get ps n) (fault_at NumberOutOfRange 0))
+    (among (carried (reading b.now)))
 
 counted : (rs : List (ℕ × Thing)) → packet_count rs ≡ length (packets_among rs)
 counted [] = refl

@@ -36,11 +36,13 @@ abbrev pub item_lent : Result Carried Fault → Option (Bor (List ℕ))
 item_lent (Ok c) = packet_lent c.«record»
 item_lent (Err e) = None
 
--- the parts of the block b that are the packets among records, and where they are those of a walk's items
+-- the parts of the block b that are the packets among records, as a walk lends them
 abbrev parts : Bor (List ℕ) → List (ℕ × Thing) → List (Bor (List ℕ))
 parts b rs = filter_map (λ r. packet_lent (record_as b r.0 r.1)) rs
 
-items_parts : (b : Bor (List ℕ)) (r : Reading) → filter_map item_lent (map (item_as b) (items_of b.now r)) ≡ parts b (carried r)
+items_parts :
+    (b : Bor (List ℕ)) (r : Reading)
+    → filter_map item_lent (map (item_as b) (items_of b.now r)) ≡ parts b (carried r)
 items_parts b done = refl
 items_parts b (filled o) = refl
 items_parts b (broken o e) = refl
@@ -55,11 +57,14 @@ places b [] o e n t = refl
 places b ((at, fill) ∷ rs) o e n t = absurd t.1.kind
 places b ((at, power_up) ∷ rs) o e n t = places b rs _ e n t.2
 places b ((at, packet p) ∷ rs) o e zero t =
-    let stands : take (length p) (drop (at + 1) b.now) ≡ p = ap (λ k. take (length p) (drop (k + 1) b.now)) t.0 ∙ packet_stands b.now o p t.1 in
+    let stands : take (length p) (drop (at + 1) b.now) ≡ p
+    = ap (λ k. take (length p) (drop (k + 1) b.now)) t.0 ∙ packet_stands b.now o p t.1
+    in
     ap (λ l. Ok (part b (at + 1) l)) (sym stands)
 places b ((at, packet p) ∷ rs) o e (suc n) t =
     let less : suc n - 1 ≡ n = omega arith in
-    places b rs _ e n t.2 ∙ ap (part_at b) (ap (λ k. packet_place k rs) (sym less) ∙ sym (cond-false _ _ _ (ne_eqb (suc n) 0 (omega arith))))
+    let other = cond-false _ _ _ (ne_eqb (suc n) 0 (omega arith)) in
+    places b rs _ e n t.2 ∙ ap (part_at b) (ap (λ k. packet_place k rs) (sym less) ∙ sym other)
 
 -- r is the packet that n others stand before
 pub handed :
@@ -67,7 +72,8 @@ pub handed :
     → r ≡ slice_get (filter_map item_lent (map (item_as b) (items_of b.now (reading b.now)))) n
     → ok_or r (fault_at NumberOutOfRange 0) ≡ part_at b (packet_place n (carried (reading b.now)))
 handed b r n e =
-    ap (λ o. ok_or o (fault_at NumberOutOfRange 0)) (e ∙ ap (λ l. slice_get l n) (items_parts b (reading b.now)))
+    let is = e ∙ ap (λ l. slice_get l n) (items_parts b (reading b.now)) in
+    ap (λ o. ok_or o (fault_at NumberOutOfRange 0)) is
     ∙ places b (carried (reading b.now)) 0 _ n (sound b.now).0
 
 -- the bytes of the packets among the records
@@ -81,7 +87,8 @@ packets rs = filter_map (λ r. packet_bytes r.1) rs
 
 same_bytes :
     (b : Bor (List ℕ)) (rs : List (ℕ × Thing)) (n : ℕ)
-    → bytes_in (ok_or (slice_get (parts b rs) n) (fault_at NumberOutOfRange 0)) ≡ ok_or (slice_get (packets rs) n) (fault_at NumberOutOfRange 0)
+    → bytes_in (ok_or (slice_get (parts b rs) n) (fault_at NumberOutOfRange 0))
+    ≡ ok_or (slice_get (packets rs) n) (fault_at NumberOutOfRange 0)
 same_bytes b [] n = refl
 same_bytes b ((at, fill) ∷ rs) n = same_bytes b rs n
 same_bytes b ((at, power_up) ∷ rs) n = same_bytes b rs n
@@ -90,6 +97,8 @@ same_bytes b ((at, packet p) ∷ rs) (suc n) = same_bytes b rs n
 
 pub handed_bytes :
     (b : Bor (List ℕ)) (n : ℕ)
-    → bytes_in (part_at b (packet_place n (carried (reading b.now)))) ≡ ok_or (slice_get (packets (carried (reading b.now))) n) (fault_at NumberOutOfRange 0)
+    → bytes_in (part_at b (packet_place n (carried (reading b.now))))
+    ≡ ok_or (slice_get (packets (carried (reading b.now))) n) (fault_at NumberOutOfRange 0)
 handed_bytes b n =
-    ap bytes_in (sym (places b (carried (reading b.now)) 0 _ n (sound b.now).0)) ∙ same_bytes b (carried (reading b.now)) n
+    ap bytes_in (sym (places b (carried (reading b.now)) 0 _ n (sound b.now).0))
+    ∙ same_bytes b (carried (reading b.now)) n

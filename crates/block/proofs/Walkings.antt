@@ -126,18 +126,23 @@ one_fewer s (Err e) t a = items_given s t (Some (Err e)) a ∙ ap (λ l. Err e �
 
 -- ---- the same items as references into the block
 
-record_back : (b : Bor (List ℕ)) (o : ℕ) (r : Record) → LiesIn b o r → record_as b o (thing_in r) ≡ r
+record_back :
+    (b : Bor (List ℕ)) (o : ℕ) (r : Record) → LiesIn b o r → record_as b o (thing_in r) ≡ r
 record_back b o Fill h = refl
 record_back b o PowerUp h = refl
 record_back b o (Packet p) h = ap Packet (sym h)
 
-item_back : (b : Bor (List ℕ)) (x : Result Carried Fault) → GivenIn b (Some x) → item_as b (item_in x) ≡ x
-item_back b (Ok c) h = ap (λ (r : Record). Ok (record c { «record» = r })) (record_back b c.offset c.«record» h)
+item_back :
+    (b : Bor (List ℕ)) (x : Result Carried Fault) → GivenIn b (Some x) → item_as b (item_in x) ≡ x
+item_back b (Ok c) h =
+    ap (λ (r : Record). Ok (record c { «record» = r })) (record_back b c.offset c.«record» h)
 item_back b (Err e) h = refl
 
 -- the walk stays on the same memory
 still_lent : (s t : Walk) (r : Option (Result Carried Fault)) → Advances s r t → t.block ≡ s.block
-still_lent s t r a = ap₂ (λ (p : ℕ × ℕ) (b : List ℕ). let lent : Bor (List ℕ) = record { ref_ptr = p; now = b } in lent) a.lies a.same
+still_lent s t r a =
+    let lent : ℕ × ℕ → List ℕ → Bor (List ℕ) = λ p b. record { ref_ptr = p; now = b } in
+    ap₂ lent a.lies a.same
 
 abbrev lent_left : Walk → List (Result Carried Fault)
 lent_left s = map (item_as s.block) (items_left s)
@@ -145,7 +150,10 @@ lent_left s = map (item_as s.block) (items_left s)
 none_lent : (s t : Walk) → Advances s None t → length (lent_left s) ≡ 0
 none_lent s t a = length-map (items_left s) (item_as s.block) ∙ none_left s t a
 
-one_lent : (s : Walk) (x : Result Carried Fault) (t : Walk) → Advances s (Some x) t → lent_left s ≡ x ∷ lent_left t
+one_lent :
+    (s : Walk) (x : Result Carried Fault) (t : Walk)
+    → Advances s (Some x) t
+    → lent_left s ≡ x ∷ lent_left t
 one_lent s x t a =
     ap (map (item_as s.block)) (one_fewer s x t a)
     ∙ ap (λ y. y ∷ map (item_as s.block) (items_left t)) (item_back s.block x a.within)

@@ -84,7 +84,7 @@ found (Ok None) = Ok None
 found (Ok (Some c)) = Ok (Some (placed_in c))
 found (Err e) = Err e
 
--- the bytes p that stand in the block b from its offset o on: that very memory, so far from the place of the block
+-- the bytes p that stand in the block b from its offset o on: that very memory, o bytes further
 abbrev pub part : Bor (List ℕ) → ℕ → List ℕ → Bor (List ℕ)
 part b o p = record { ref_ptr = (b.ref_ptr.0, b.ref_ptr.1 + o); now = p }
 

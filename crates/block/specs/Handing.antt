@@ -20,7 +20,7 @@ abbrev pub part_at : Bor (List ℕ) → Option (ℕ × ℕ) → Result (Bor (Lis
 part_at b None = Err (fault_at NumberOutOfRange 0)
 part_at b (Some (o, k)) = Ok (part b (o + 1) (take k (drop (o + 1) b.now)))
 
--- the n-th packet of the block b, counted from 0, as that very part of it; a bad length is refused first
+-- the n-th packet of the block b, counted from 0, as that part of it; a bad length is refused first
 abbrev pub handed_out : Bor (List ℕ) → ℕ → Result (Bor (List ℕ)) Fault
 handed_out b n =
     cond (is_block_length (length b.now)) (part_at b (packet_place n (carried (reading b.now))))

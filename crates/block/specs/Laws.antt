@@ -28,7 +28,8 @@ abbrev pub HandsOutEach : Type 0
 HandsOutEach =
     (b : Bor (List ℕ)) (n : ℕ)
     → is_block_length (length b.now) ≡ true
-    → bytes_in (handed_out b n) ≡ ok_or (slice_get (packets_of b.now) n) (fault_at NumberOutOfRange 0)
+    → bytes_in (handed_out b n)
+    ≡ ok_or (slice_get (packets_of b.now) n) (fault_at NumberOutOfRange 0)
 
 -- a survey counts each of these packets, and each record that is carried once
 abbrev pub CountsEach : Type 0
@@ -37,7 +38,8 @@ CountsEach = (b : List ℕ) (s : Survey) → surveyed b ≡ Ok s → (s.packets 
 -- a block of no bytes or of more than 512 is refused by a walk, a handing out and a survey, and any other is surveyed
 pub record LengthsRefused (b : List ℕ) : Type 0 where
   pub checked : length_checked (length b) ≡ Err (fault_at BlockLength 0)
-  pub handed : (lent : Bor (List ℕ)) (n : ℕ) → lent.now ≡ b → handed_out lent n ≡ Err (fault_at BlockLength 0)
+  pub handed :
+      (lent : Bor (List ℕ)) (n : ℕ) → lent.now ≡ b → handed_out lent n ≡ Err (fault_at BlockLength 0)
   pub survey : surveyed b ≡ Err (fault_at BlockLength 0)
 
 abbrev pub RefusesLengths : Type 0

@@ -91,5 +91,6 @@ item_as b (Err e) = Err e
 
 -- calls of `next` on a new walk give just those items in turn, and then none
 abbrev pub GivesAll : Bor (List ℕ) → Result Walk Fault → Type 0
-GivesAll b (Ok w) = AlwaysYields Advances (λ x. x) w (map (item_as b) (items_of b.now (reading b.now)))
+GivesAll b (Ok w) =
+    AlwaysYields Advances (λ x. x) w (map (item_as b) (items_of b.now (reading b.now)))
 GivesAll b (Err e) = Unit {0}

@@ -14,6 +14,7 @@ module _ {X : Type 0} where
   accepted (Ok y) x e = cc
   accepted (Err d) x e = cc
 
-  pub refused : (r : Result X Refusal) → result_err (placeless r) ≡ option_map nowhere (result_err r)
+  pub refused :
+      (r : Result X Refusal) → result_err (placeless r) ≡ option_map nowhere (result_err r)
   refused (Ok y) = refl
   refused (Err d) = refl

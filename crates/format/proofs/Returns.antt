@@ -64,7 +64,9 @@ long_forth b d bs p a l m e =
 
 basic_head :
     (b d : ℕ) (o : ℕ) → 0x80 ≤ b → b < 0xc0 → 0x80 ≤ d → d < 256 → o ≡ d % 16
-    → (basic_address b d < 512) × (0x80 + basic_address b d % 64 ≡ b) × (basic_second (basic_address b d) o ≡ d)
+    → (basic_address b d < 512)
+    × (0x80 + basic_address b d % 64 ≡ b)
+    × (basic_second (basic_address b d) o ≡ d)
 basic_head b d o l m n k e = (omega arith, omega arith, omega arith)
 
 extended_head :

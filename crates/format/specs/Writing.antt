@@ -132,8 +132,8 @@ output_bits (anyone bs) = 0
 output_bits (output number on) = flag on 8 + number % 8
 output_bits (aspect number) = 0
 
--- the second byte of an accessory head: the complemented upper three bits of the address, and below them CDDD, or the
--- two lowest bits of the address in 0AA1
+-- the second byte of an accessory head: the complemented upper three bits of the address, and
+-- below them CDDD, or the two lowest bits of the address in 0AA1
 abbrev pub basic_second : ℕ → ℕ → ℕ
 basic_second address cddd = 0x80 + 16 * (7 - address / 64) + cddd
 

@@ -16,8 +16,8 @@ pub fn read_up_to<R: Read>(input: &mut R, place: &mut [u8]) -> io::Result<usize>
     ensures room { IfOk result (λ n. n ≤ length place.new) }
     ensures bytes { IfOk result (λ n. Consumes (R.Read.remaining input.old) (R.Read.remaining input.new) (take n place.new)) }
     ensures end { IfOk result (λ n. n < length place.new → IsAtEnd (R.Read.remaining input.new)) }
-    ensures failed { OnErr result (SomeIndex place.new
-        (λ n. Consumes (R.Read.remaining input.old) (R.Read.remaining input.new) (take n place.new))) }
+    ensures failed { OnErr result (SomeIndex place.new (λ n.
+        Consumes (R.Read.remaining input.old) (R.Read.remaining input.new) (take n place.new))) }
 {
     // No `read_to_end`: the place is lent, there is no heap, and an input may have no end.
     let mut count = 0;

@@ -1,6 +1,6 @@
 ghost use Rattle.format.specs.Examples.{ExamplesRead};
 
-/// A table of packets, every field of every form among them, says what the format says by it, both ways.
+/// A table of packets, with each field of each form, is read as the format says, and written so.
 pub fn examples_read()
     ensures { ExamplesRead }
 {}

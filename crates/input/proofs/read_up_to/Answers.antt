@@ -45,5 +45,7 @@ returns-in_err-more-clause-failed g c =
     let kept = Consumes-kept _ _ _ _ c.loop-count.invariant.2 c.in_err-more.ensures.bytes in
     let had = g.R.Read.remaining c.args.input.now in
     let left = g.R.Read.remaining c.read.new.self in
-    let some : SomeIndex now (λ n. Consumes had left (take n now)) = (from, search rules, subst (Consumes _ _) (sym front) kept) in
+    let some : SomeIndex now (λ n. Consumes had left (take n now))
+    = (from, search rules, subst (Consumes _ _) (sym front) kept)
+    in
     always_on_err _ some

@@ -16,12 +16,15 @@ map_same (Some x) = refl
 pub returns : goal.returns
 returns c =
     let b = c.args.block in
-    let items : YieldsList Advances (λ x. x) c.in_ok-new.field-0 (map (item_as b) (items_of b.now (reading b.now)))
+    let all = map (item_as b) (items_of b.now (reading b.now)) in
+    let items : YieldsList Advances (λ x. x) c.in_ok-new.field-0 all
     = record { runs = c.in_ok-new.ensures.gives }
     in
+    let source = YieldsList-at c.filter_map.ensures.source items in
     let at =
     nth_from_yields_List c.nth.result _ c.args.n c.nth.ensures.ran
-    (YieldsList-from_filter_map _ item_lent (YieldsList-at c.filter_map.ensures.source items) c.filter_map.ensures.closure (λ x r q k. search (rules, tests)))
+    (YieldsList-from_filter_map _ item_lent source c.filter_map.ensures.closure
+    (λ x r q k. search (rules, tests)))
     in
     c.ok_or.ensures.value ∙ ap (ok_or c.nth.result) c.into.ensures
     ∙ handed b c.nth.result c.args.n (sym (map_same c.nth.result) ∙ at)

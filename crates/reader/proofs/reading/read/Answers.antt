@@ -19,5 +19,7 @@ returns c =
       value = is;
       written_back = λ p e. read_writes bs bytes p (accepted (packet_read bs) p (sym is ∙ e));
       all_accepted = λ t i e. is ∙ ap placeless (written_reads t i bs e);
-      refused = ap result_err is ∙ refused (packet_read bs) ∙ ap (option_map nowhere) (reading_refused bs bytes);
+      refused =
+          ap result_err is ∙ refused (packet_read bs)
+          ∙ ap (option_map nowhere) (reading_refused bs bytes);
     }
