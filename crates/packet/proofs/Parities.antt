@@ -1,5 +1,5 @@
 -- Laws of the XOR of a list's bytes.
-use Rattle.std.proofs.Common.{◌≡◌, ℕ, List, [], ◌∷◌, ◌++◌, refl, arith}
+use Rattle.std.proofs.Common.{◌≡◌, ℕ, List, [], ◌∷◌, ◌++◌, refl, sym, ◌∙◌, arith}
 use lib.Bits.{bit_xor, xor_assoc, xor_zero_r, xor_zero_l, xor_self}
 use Rattle.packet.specs.Parity.{parity, sealed}
 
@@ -14,8 +14,10 @@ parity_more bs b = search (parity-append bs (b ∷ []), xor_zero_r b)
 pub parity-sealed : (bs : List ℕ) → parity (sealed bs) ≡ 0
 parity-sealed bs = search (parity_more, xor_self)
 
+-- two numbers whose XOR is zero are the same
+pub xor_zero_same : (a b : ℕ) → bit_xor a b ≡ 0 → b ≡ a
+xor_zero_same a b e = grind (arith, xor_zero_l b, xor_self a, xor_assoc a a b, xor_zero_r a)
+
 -- where the XOR of all is zero, the last byte is the XOR of those before it
 pub parity_last : (bs : List ℕ) (b : ℕ) → parity (bs ++ (b ∷ [])) ≡ 0 → b ≡ parity bs
-parity_last bs b e =
-    let p = parity bs in
-    grind (arith, parity_more bs b, xor_zero_l b, xor_self p, xor_assoc p p b, xor_zero_r p)
+parity_last bs b e = xor_zero_same (parity bs) b (sym (parity_more bs b) ∙ e)
