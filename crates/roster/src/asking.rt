@@ -68,7 +68,7 @@ impl<'a> Banks<'a> {
         let mobile = self.mobile(kinds, memory, decoder)?;
         let functions = &mobile.state.functions;
         functions
-            .get(number)
+            .numbered(number)
             .ok_or(Refusal::NumberOutOfRange.into())
     }
 

@@ -1,4 +1,4 @@
-ghost use Rattle.std.specs.Prelude.{◌≡◌, ℕ, ◌+◌, ◌≤◌};
+ghost use Rattle.std.specs.Prelude.{◌≡◌, ◌+◌, ◌≤◌};
 ghost use Rattle.state.specs.Groups.{low_bits, pasted, lit, switched, function_at};
 
 use crate::bits::has_bit;
@@ -47,10 +47,20 @@ impl Functions {
         }
     }
 
+    // Two calls for one answer: a caller has a function's number as a byte, or any number that somebody asked for, and a
+    // bare literal names no type where one call takes both.
+
     /// Whether the function is on, if there is one of that number.
-    pub fn get<N: Into<usize>>(&self, number: N) -> Option<bool>
-        ensures { (n : ℕ) × N.converts number n × (result ≡ function_at self.now.on n) }
+    pub fn get(&self, number: u8) -> Option<bool>
+        ensures { result ≡ function_at self.now.on number }
     {
-        self.on.get(number.into()).copied()
+        self.numbered(u16::from(number))
+    }
+
+    /// Whether the function is on, if there is one of that number, which may be any.
+    pub fn numbered(&self, number: u16) -> Option<bool>
+        ensures { result ≡ function_at self.now.on number }
+    {
+        self.on.get(usize::from(number)).copied()
     }
 }
