@@ -123,6 +123,9 @@ fn speeds_are_printed(rt: HostRuntime) -> Result<(), Fail> {
         (true, 127, "speed forward step 126 of 126"),
         (false, 0, "speed reverse stop of 126"),
         (true, 1, "speed forward emergency stop of 126"),
+        // In no packet is the code above 127.
+        (true, 128, "speed forward step 127 of 126"),
+        (false, 255, "speed reverse step 254 of 126"),
     ] {
         prints(
             &rt,

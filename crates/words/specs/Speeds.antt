@@ -1,5 +1,5 @@
 -- The words of an instruction that sets the speed.
-use Rattle.std.specs.Prelude.{ℕ, Bool, List, ◌++◌, codes}
+use Rattle.std.specs.Prelude.{ℕ, Bool, ◌-◌, nat_lt, if◌then◌else◌, List, ◌++◌, codes}
 use Rattle.std.specs.Fmt.{decimal}
 use Rattle.state.specs.declared.scale.Scale.TheVariants.{Fourteen, TwentyEight, OneTwentySix}
 use Rattle.state.specs.declared.speed.Speed.{Speed}
@@ -21,10 +21,15 @@ abbrev pub speed_text : Bool → ℕ → List ℕ
 speed_text forward code =
     in_28_and_14 (speed_at TwentyEight code) (number_at Fourteen code) (direction_text forward) (switched_text (bit_of code 4))
 
+abbrev pub step_in_126 : ℕ → List ℕ → List ℕ
+step_in_126 step way = codes "speed " ++ way ++ codes " step " ++ decimal step ++ codes " of 126"
+
 abbrev pub in_126 : Speed → List ℕ → List ℕ
 in_126 Stop way = codes "speed " ++ way ++ codes " stop of 126"
 in_126 EmergencyStop way = codes "speed " ++ way ++ codes " emergency stop of 126"
-in_126 (Running step) way = codes "speed " ++ way ++ codes " step " ++ decimal step.number ++ codes " of 126"
+in_126 (Running step) way = step_in_126 step.number way
 
+-- a code above 127, which no packet has, is told as a step as well
 abbrev pub speed126_text : Bool → ℕ → List ℕ
-speed126_text forward code = in_126 (speed_at OneTwentySix code) (direction_text forward)
+speed126_text forward code =
+    if nat_lt 127 code then step_in_126 (code - 1) (direction_text forward) else in_126 (speed_at OneTwentySix code) (direction_text forward)

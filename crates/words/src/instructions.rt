@@ -57,6 +57,10 @@ fn speed126<W: fmt::Write>(forward: bool, code: u8, f: &mut fmt::Formatter<W>) -
     ensures { WritesOnOk W.write_str_gives f.old result (speed126_text forward code) f.new }
 {
     let way = direction(forward);
+    // No packet has such a code, but an instruction that somebody made may.
+    if code > 127 {
+        return write!(f, "speed {way} step {} of 126", code - 1);
+    }
     match Speed::at(Scale::OneTwentySix, code) {
         Speed::Stop => write!(f, "speed {way} stop of 126"),
         Speed::EmergencyStop => write!(f, "speed {way} emergency stop of 126"),
