@@ -19,6 +19,18 @@ pub trait Place<const N: usize>: Copy {
     fn from_cells(bytes: [u8; N]) -> Self
         ensures { cells (result ∷ []) ≡ bytes.entry };
 
+    /// Puts a byte into one of its cells, where it has that cell.
+    #[tactic(auto, using(std::proofs::lemmas::List::set_past))]
+    fn put(&mut self, cell: usize, byte: u8)
+        ensures { cells (self.new ∷ []) ≡ slice_set (cells (self.old ∷ [])) cell byte }
+    {
+        let mut bytes = self.to_cells();
+        if cell < N {
+            bytes[cell] = byte;
+        }
+        *self = Self::from_cells(bytes);
+    }
+
     // Each place has its own `N` cells, and each of them holds a byte.
     ghost laws: { PlaceLaws N cells };
 }
@@ -78,10 +90,10 @@ impl<'a, P: Place<N>, const N: usize> Memory for SliceMemory<'a, P, N> {
         ensures outside { none_outside (P.Place.cells self.new.places.now) ≡ none_outside (P.Place.cells self.old.places.now) }
         ensures lenders { self.new.places.ghost_name ∷ [] ≡ self.old.places.ghost_name ∷ [] }
     {
-        let mut bytes = self.place(cell)?.to_cells();
-        bytes[cell % N] = byte;
+        let _ = self.place(cell)?;
         // Tried: `get_mut`. Of what it leaves a proof learns only the length, and `returns-clause-after` didn't close.
-        self.places[cell / N] = P::from_cells(bytes);
+        let places = &mut *self.places;
+        places[cell / N].put(cell % N, byte);
         Ok(())
     }
 }

@@ -1,4 +1,4 @@
-ghost use Rattle.std.specs.Prelude.{◌≡◌, [], ◌∷◌};
+ghost use Rattle.std.specs.Prelude.{◌≡◌, slice_set, [], ◌∷◌};
 ghost use Rattle.memory.specs.Cells.{word_cells};
 ghost use Rattle.memory.specs.Bounds.{word_laws};
 
@@ -20,6 +20,17 @@ impl Place<2> for u16 {
         ensures { word_cells (result ∷ []) ≡ bytes }
     {
         u16::from_le_bytes(bytes)
+    }
+
+    // By halves: the load of both would wait for a byte that is stored into an array.
+    fn put(&mut self, cell: usize, byte: u8)
+        ensures { word_cells (self.new ∷ []) ≡ slice_set (word_cells (self.old ∷ [])) cell byte }
+    {
+        match cell {
+            0 => *self = *self / 256 * 256 + u16::from(byte),
+            1 => *self = *self % 256 + 256 * u16::from(byte),
+            _ => {}
+        }
     }
 }
 
