@@ -37,9 +37,19 @@ impl<S: Shown> Variables for Accessory<S> {
     ghost offset_most = { omega arith };
 
     fn view<M: Memory>(window: &mut Window<'_, M>, access: Option<Access>) -> AccessoryView {
+        let config = window.get(reply_variable(Self::OFFSET));
+        let named = None;
+        Self::naming(window, AccessoryView { config, named }, access)
+    }
+
+    fn naming<M: Memory>(
+        window: &mut Window<'_, M>,
+        view: AccessoryView,
+        access: Option<Access>,
+    ) -> AccessoryView {
         AccessoryView {
-            config: window.get(reply_variable(Self::OFFSET)),
             named: window.named(Self::OFFSET, access),
+            ..view
         }
     }
 

@@ -42,12 +42,23 @@ impl Variables for Mobile {
         let high = window.get(CvNumber::LONG_ADDRESS_HIGH);
         let low = window.get(CvNumber::LONG_ADDRESS_LOW);
         let consist = window.get(CvNumber::CONSIST_ADDRESS);
-        let named = window.named(Self::OFFSET, access);
-        MobileView {
+        let view = MobileView {
             own: own_address(config, short, high, low),
             consist,
             config,
-            named,
+            named: None,
+        };
+        Self::naming(window, view, access)
+    }
+
+    fn naming<M: Memory>(
+        window: &mut Window<'_, M>,
+        view: MobileView,
+        access: Option<Access>,
+    ) -> MobileView {
+        MobileView {
+            named: window.named(Self::OFFSET, access),
+            ..view
         }
     }
 

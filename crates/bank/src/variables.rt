@@ -1,4 +1,4 @@
-ghost use Rattle.std.specs.Prelude.{◌≡◌, ℕ, ◌≤◌, Option};
+ghost use Rattle.std.specs.Prelude.{◌≡◌, ℕ, ◌≤◌, Option, None};
 ghost use Rattle.decoder.specs.Accesses.{reply_variable};
 ghost use Rattle.decoder.specs.Alone.{own, named as named_in};
 ghost use Rattle.bank.specs.Hearers.{is_heard, after_hearing};
@@ -23,6 +23,21 @@ pub trait Variables: Listener {
         ensures answer { result ≡ Self.View.seen (variables window.old) access }
         ensures kept { Unchanged window.old window.new };
 
+    /// The view of the same variables and of the one that an access names, by one that was read without an access.
+    // So what a packet that is heard decides by is read once.
+    fn naming<M: Memory>(
+        window: &mut Window<'_, M>,
+        view: Self::View,
+        access: Option<Access>,
+    ) -> Self::View
+        ensures answer { view ≡ Self.View.seen (variables window.old) None
+            → result ≡ Self.View.seen (variables window.old) access }
+        ensures kept { Unchanged window.old window.new }
+    {
+        let _ = view;
+        Self::view(window, access)
+    }
+
     /// No write waits any more.
     fn end_wait(&mut self)
         ensures { self.new ≡ Self.Listener.rules.unwaits self.old };
@@ -42,7 +57,7 @@ pub trait Variables: Listener {
         let Some(role) = self.hears(&others, said.target) else {
             return false;
         };
-        let view = Self::view(window, access_of(said.instruction));
+        let view = Self::naming(window, others, access_of(said.instruction));
         let heard = Heard {
             role,
             packet: WaitingWrite::new(packet),

@@ -53,7 +53,7 @@ impl<'a, M: Memory> Window<'a, M> {
 
     /// The variable of a number.
     #[tactic(auto, using(crate::proofs::Windowed::in_window))]
-    pub(crate) fn get(&mut self, cv: CvNumber) -> u8
+    pub fn get(&mut self, cv: CvNumber) -> u8
         ensures answer { result ≡ variable (variables self.old) cv.number }
         ensures kept { Unchanged self.old self.new }
     {
@@ -62,7 +62,7 @@ impl<'a, M: Memory> Window<'a, M> {
     }
 
     /// Puts a value into the variable of a number.
-    pub(crate) fn put(&mut self, cv: CvNumber, value: u8)
+    pub fn put(&mut self, cv: CvNumber, value: u8)
         ensures { Became self.old self.new (slice_set (variables self.old) (cv.number - 1) value) }
     {
         let cell = self.cell(cv);
