@@ -32,12 +32,34 @@ pub enum Line {
     Ask(DecoderName, Request),
 }
 
-/// The words of a line before its comment, if there is one. Only blanks and tabs divide them.
-fn words_of(heap: Global, line: &str) -> Result<Vec<&str>, AllocError> {
-    let text = line.split_once('#').map_or(line, |(text, _)| text);
-    text.split([' ', '\t'])
-        .filter(|word| !word.is_empty())
-        .collect(heap)
+/// What divides words.
+const BLANKS: [char; 2] = [' ', '\t'];
+
+/// How many words a call has at most, but for `take`, and one more, by which a line of too many is seen.
+const WORDS: usize = 6;
+
+/// The first word of a text and what stands behind it, if it has one.
+fn first_word(text: &str) -> Option<(&str, &str)> {
+    let text = text.trim_start_matches(BLANKS);
+    if text.is_empty() {
+        return None;
+    }
+    Some(text.split_once(BLANKS).unwrap_or((text, "")))
+}
+
+/// The first words of a text, in a place that the caller lends.
+// No list of all words: a line may be as long as a script.
+fn first_words<'a, 'b>(text: &'a str, place: &'b mut [&'a str; WORDS]) -> &'b [&'a str] {
+    let mut rest = text;
+    for found in place.iter_mut() {
+        let Some((word, behind)) = first_word(rest) else {
+            break;
+        };
+        *found = word;
+        rest = behind;
+    }
+    let count = place.iter().filter(|word| !word.is_empty()).count();
+    &place[..count.min(WORDS)]
 }
 
 /// A number up to `most`.
@@ -102,13 +124,17 @@ fn lending(mobiles: &str, basics: &str, extendeds: &str, cells: &str) -> Option<
     }))
 }
 
-/// The bytes that words name, if each names one.
-fn block(heap: Global, words: &[&str]) -> Result<Option<Vec<u8>>, AllocError> {
-    words.iter().map(|word| hex_byte(word)).collect(heap)
+/// The bytes that all words behind the first name, if each names one.
+fn block(heap: Global, text: &str) -> Result<Option<Vec<u8>>, AllocError> {
+    text.split(BLANKS)
+        .filter(|word| !word.is_empty())
+        .skip(1)
+        .map(|word| hex_byte(word))
+        .collect(heap)
 }
 
-/// The call that the words are, if they are one.
-fn call(heap: Global, words: &[&str]) -> Result<Option<Line>, AllocError> {
+/// The call that a text is, if it is one, by its first words.
+fn call(heap: Global, text: &str, words: &[&str]) -> Result<Option<Line>, AllocError> {
     match words {
         ["new"] => Ok(Some(Line::New)),
         ["start"] => Ok(Some(Line::Start)),
@@ -116,7 +142,7 @@ fn call(heap: Global, words: &[&str]) -> Result<Option<Line>, AllocError> {
             Ok(lending(mobiles, basics, extendeds, cells))
         }
         ["fit", fit @ ..] => Ok(fitting(fit).map(Line::Fit)),
-        ["take", bytes @ ..] => Ok(block(heap, bytes)?.map(Line::Take)),
+        ["take", ..] => Ok(block(heap, text)?.map(Line::Take)),
         _ => Ok(request(words)),
     }
 }
@@ -140,15 +166,18 @@ fn expected(words: &[&str]) -> &'static str {
 
 impl Line {
     /// Reads a line of a script, if it has a word.
-    pub(crate) fn read(heap: Global, number: usize, text: &str) -> Result<Option<Line>, Trouble> {
-        let words = words_of(heap, text)?;
+    pub(crate) fn read(heap: Global, number: usize, line: &str) -> Result<Option<Line>, Trouble> {
+        // What stands behind `#` is a comment.
+        let text = line.split_once('#').map_or(line, |(text, _)| text);
+        let mut place = [""; WORDS];
+        let words = first_words(text, &mut place);
         if words.is_empty() {
             return Ok(None);
         }
-        let Some(call) = call(heap, words.as_slice())? else {
+        let Some(call) = call(heap, text, words)? else {
             return Err(Trouble::BadLine {
                 line: number,
-                expected: expected(words.as_slice()),
+                expected: expected(words),
             });
         };
         Ok(Some(call))

@@ -68,32 +68,32 @@ fn asked<W: fmt::Write>(request: Request, f: &mut fmt::Formatter<W>) -> fmt::Res
     }
 }
 
-fn answered<W: fmt::Write>(answer: Answer, f: &mut fmt::Formatter<W>) -> fmt::Result {
+fn answered<W: fmt::Write>(answer: &Answer, f: &mut fmt::Formatter<W>) -> fmt::Result {
     match answer {
-        Answer::Taken(packets) => taken(packets, f),
+        Answer::Taken(packets) => taken(*packets, f),
         Answer::Set => write!(f, "set"),
         Answer::State(state) => {
             let words = InWords(state);
             write!(f, "{words}")
         }
         Answer::Variable(value) => write!(f, "{value}"),
-        Answer::Function(on) | Answer::BinaryState(on) => f.write_str(switched(on)),
+        Answer::Function(on) | Answer::BinaryState(on) => f.write_str(switched(*on)),
     }
 }
 
 impl fmt::Display for Outcome {
     fn fmt<W: fmt::Write>(&self, f: &mut fmt::Formatter<W>) -> fmt::Result {
-        match *self {
+        match self {
             Outcome::NewBoard => write!(f, "new board"),
-            Outcome::Lent(much) => lent(much, f),
+            Outcome::Lent(much) => lent(*much, f),
             Outcome::Fitted(name) => {
-                let name = Named(name);
+                let name = Named(*name);
                 write!(f, "fitted {name}")
             }
             Outcome::Started => write!(f, "started"),
             Outcome::Answered(request, answer) => {
                 if let Some(request) = request {
-                    asked(request, f)?;
+                    asked(*request, f)?;
                 }
                 answered(answer, f)
             }

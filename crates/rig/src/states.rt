@@ -1,15 +1,18 @@
 use script::DecoderState;
-use state::{BinaryStates, MobileState, Reply, Speed, WaitingWrite};
+use state::{BinaryStates, MobileState, Reply, Speed, WaitingWrite, has_bit};
 use std::{array, fmt};
 use words::{Hex, NumbersOn, direction};
 
 /// The volatile part of a decoder as people read it.
 #[derive(Clone, Copy)]
-pub struct InWords(pub DecoderState);
+pub struct InWords<'a>(pub &'a DecoderState);
 
 /// The binary states by their numbers. There is none of number 0.
 fn all_states(states: &BinaryStates) -> [bool; 2048] {
-    array::from_fn(|number| states.get(number as u16) == Some(true))
+    // Each by its bit: `get` would look 2048 times whether there is a state of that number.
+    array::from_fn(|number| {
+        number > 0 && has_bit(states.bits[number / 8 % 256], (number % 8) as u8)
+    })
 }
 
 fn speed<W: fmt::Write>(speed: Speed, f: &mut fmt::Formatter<W>) -> fmt::Result {
@@ -56,9 +59,9 @@ fn mobile<W: fmt::Write>(state: &MobileState, f: &mut fmt::Formatter<W>) -> fmt:
     common(&state.waiting, state.reply, f)
 }
 
-impl fmt::Display for InWords {
+impl fmt::Display for InWords<'_> {
     fn fmt<W: fmt::Write>(&self, f: &mut fmt::Formatter<W>) -> fmt::Result {
-        match &self.0 {
+        match self.0 {
             DecoderState::Mobile(state) => mobile(state, f),
             DecoderState::Basic(state) => {
                 let outputs = NumbersOn::new(&state.shown, "none");
