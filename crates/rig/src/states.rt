@@ -1,6 +1,6 @@
 use script::DecoderState;
 use state::{BinaryStates, MobileState, Reply, Speed, WaitingWrite, has_bit};
-use std::{array, fmt};
+use std::fmt;
 use words::{Hex, NumbersOn, direction};
 
 /// The volatile part of a decoder as people read it.
@@ -9,10 +9,17 @@ pub struct InWords<'a>(pub &'a DecoderState);
 
 /// The binary states by their numbers. There is none of number 0.
 fn all_states(states: &BinaryStates) -> [bool; 2048] {
-    // Each by its bit: `get` would look 2048 times whether there is a state of that number.
-    array::from_fn(|number| {
-        number > 0 && has_bit(states.bits[number / 8 % 256], (number % 8) as u8)
-    })
+    let mut all = [false; 2048];
+    // Most bytes have no state that is on: these are passed over.
+    for (eight, byte) in all.chunks_exact_mut(8).zip(states.bits) {
+        if byte != 0 {
+            for (bit, on) in (0u8..8).zip(eight.iter_mut()) {
+                *on = has_bit(byte, bit);
+            }
+        }
+    }
+    all[0] = false;
+    all
 }
 
 fn speed<W: fmt::Write>(speed: Speed, f: &mut fmt::Formatter<W>) -> fmt::Result {
